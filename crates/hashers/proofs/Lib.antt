@@ -1,0 +1,6 @@
+pub mod Replaced
+pub mod Mixing
+pub mod Bijection
+pub mod KeyHash
+pub mod Vectors
+pub mod OneOutcome

@@ -1,0 +1,4 @@
+pub mod Published
+pub mod Writes
+pub mod Keys
+pub mod Exports

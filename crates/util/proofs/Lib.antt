@@ -1,0 +1,4 @@
+pub mod Remainder
+pub mod Digits
+pub mod Loading
+pub mod Powers
