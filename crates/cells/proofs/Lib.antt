@@ -1,0 +1,4 @@
+pub mod Shapes
+pub mod Doing
+pub mod Tails
+pub mod Clearing

@@ -1,0 +1,22 @@
+-- The two branches of clear. Assumes nothing.
+use mathlib.Core.Bool.{true, false}
+use mathlib.Core.List.{List}
+use mathlib.Core.Path.{_≡_, sym, ap, _∙_}
+use Prim.Native.Nat.{ℕ, _*_}
+use lib.ListN.{length, replicate}
+use Rattle.hashers.specs.declared.Hasher.{Hasher}
+use Rattle.cells.specs.Layout.{isShaped, sizeIn, freshWords, freshDeltas}
+use Rattle.cells.proofs.Shapes.{shaped}
+use Rattle.hashmap.specs.Answers.{Cleared, cleared, refuses, clearRule}
+
+module _ (ws ds : List ℕ) (hasher : Hasher) where
+  pub clears : isShaped ws ds ≡ true → (ws′ ds′ : List ℕ) → ws′ ≡ freshWords (sizeIn ds) → ds′ ≡ replicate {A = ℕ} (length ds) 0
+      → record { said = cleared (record { hasher = hasher; live = 0 }); words = ws′; deltas = ds′ } ≡ clearRule ws ds hasher
+  unfolding clearRule
+  clears e ws′ ds′ a b =
+      let l = ap (λ (n : ℕ). replicate {A = ℕ} n 0) (shaped ws ds e .deltas) in
+      rw e (λ i. record { said = cleared (record { hasher = hasher; live = 0 }); words = a i; deltas = (b ∙ l) i })
+
+  pub keeps : isShaped ws ds ≡ false → record { said = refuses 1; words = ws; deltas = ds } ≡ clearRule ws ds hasher
+  unfolding clearRule
+  keeps e = rw e

@@ -1,0 +1,58 @@
+-- `hashmap::small::contains_key` meets its contract. Assumes nothing.
+use borrow.Author.Needs.{needs}
+use mathlib.Core.Path.{sym, ap, _∙_}
+use Rattle.rules.specs.Answers.{Answer}
+use Rattle.hashmap.specs.Answers.{findSaid}
+use Rattle.hashmap.specs.Small.{contains}
+use Rattle.hashmap.specs.declared.FindSaid.{FindSaid}
+use Rattle.hashmap.proofs.small.contains_key.Statement.{statement}
+use Rattle.hashmap.proofs.small.contains_key.Tie as tie
+
+find-requires : tie.Need-find-requires
+find-requires c κs = search needs
+
+enum-told : tie.Need-enum-told
+enum-told c = search needs
+
+enum-told-2 : tie.Need-enum-told-2
+enum-told-2 c = search needs
+
+enum-told-3 : tie.Need-enum-told-3
+enum-told-3 c = search needs
+
+enum-told-4 : tie.Need-enum-told-4
+enum-told-4 c = search needs
+
+enum-told-5 : tie.Need-enum-told-5
+enum-told-5 c = search needs
+
+returns : tie.Need-returns
+returns c = sym (ap (λ (s : FindSaid). contains (findSaid s)) (c .enum-told .given .1)) ∙ ap (λ (a : Answer). contains (a .said)) (c .before .before .find .ensures)
+
+returns-2 : tie.Need-returns-2
+returns-2 c = sym (ap (λ (s : FindSaid). contains (findSaid s)) (c .enum-told2 .given .1)) ∙ ap (λ (a : Answer). contains (a .said)) (c .before .before .find .ensures)
+
+returns-3 : tie.Need-returns-3
+returns-3 c = sym (ap (λ (s : FindSaid). contains (findSaid s)) (c .enum-told3 .given .1)) ∙ ap (λ (a : Answer). contains (a .said)) (c .before .before .find .ensures)
+
+returns-4 : tie.Need-returns-4
+returns-4 c = sym (ap (λ (s : FindSaid). contains (findSaid s)) (c .enum-told4 .given .1)) ∙ ap (λ (a : Answer). contains (a .said)) (c .before .before .find .ensures)
+
+returns-5 : tie.Need-returns-5
+returns-5 c = sym (ap (λ (s : FindSaid). contains (findSaid s)) (c .enum-told5 .given .1)) ∙ ap (λ (a : Answer). contains (a .said)) (c .before .before .find .ensures)
+
+pub contains-key-spec : {M : Type 1} → statement M
+contains-key-spec =
+    tie.close
+    (tie.spec
+    find-requires
+    enum-told
+    enum-told-2
+    enum-told-3
+    enum-told-4
+    enum-told-5
+    returns
+    returns-2
+    returns-3
+    returns-4
+    returns-5)

@@ -1,0 +1,6 @@
+-- Document 01 as definitions, in its order.
+pub mod Sizes
+pub mod Cells
+pub mod Walk
+pub mod Answers
+pub mod Calls

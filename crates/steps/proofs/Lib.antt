@@ -1,0 +1,4 @@
+pub mod Sizes
+pub mod Walking
+pub mod Probing
+pub mod Branches
