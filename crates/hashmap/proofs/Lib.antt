@@ -1,2 +1,3 @@
 pub mod Leaving
 pub mod Cleared
+pub mod OneOutcome

@@ -13,7 +13,8 @@ use cells::is_shaped;
 pub fn len(table: Table) -> usize
     ensures { λ r. ⌜ r ≡ table .live ⌝ }
 {
-    table.live
+    let live = table.live;
+    live
 }
 
 pub fn is_empty(table: Table) -> bool

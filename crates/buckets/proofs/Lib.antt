@@ -1,0 +1,5 @@
+pub mod Lists
+pub mod Stores
+pub mod Reading
+pub mod Putting
+pub mod OneOutcome

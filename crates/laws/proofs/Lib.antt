@@ -1,0 +1,11 @@
+pub mod Ways
+pub mod Refusals
+pub mod Looked
+pub mod Stops
+pub mod Hits
+pub mod Full
+pub mod Counted
+pub mod Changes
+pub mod Within
+pub mod Lent
+pub mod Examples

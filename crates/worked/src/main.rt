@@ -1,0 +1,254 @@
+// Runs the worked examples 1 to 7, 9 and 10 of document 01 and prints each answer with the cells looked at.
+// The file stdout beside src/ is written from document 01.
+use hashers::Hasher;
+use hashmap::ClearSaid;
+use hashmap::FindSaid;
+use hashmap::InsertSaid;
+use hashmap::RemoveSaid;
+use hashmap::Table;
+use libc::STDOUT_FILENO;
+
+fn text(bytes: &[u8]) {
+    io::write_all(STDOUT_FILENO, bytes);
+}
+
+fn number(n: u64) {
+    io::print_decimal(STDOUT_FILENO, n);
+}
+
+fn after(looked: usize) {
+    text(b", looked ");
+    number(looked as u64);
+    text(b"\n");
+}
+
+fn say_inserted(said: InsertSaid) {
+    match said {
+        InsertSaid::New => text(b"New"),
+        InsertSaid::Replaced(old) => {
+            text(b"Replaced ");
+            number(old);
+        }
+        InsertSaid::Revived => text(b"Revived"),
+        InsertSaid::Shape => text(b"1"),
+        InsertSaid::ZeroHash => text(b"2"),
+        InsertSaid::Null => text(b"3"),
+        InsertSaid::Full(at) => {
+            text(b"Full ");
+            number(at.position);
+        }
+        InsertSaid::Broken => text(b"5"),
+    }
+}
+
+fn insert(words: &mut [u64], deltas: &mut [u8], table: Table, key: u64, value: u64) -> Table {
+    let answer = hashmap::insert(words, deltas, table, key, value);
+    text(b"insert ");
+    number(key);
+    text(b": ");
+    let said = answer.said;
+    say_inserted(said);
+    after(answer.looked);
+    answer.table
+}
+
+fn find(words: &[u64], deltas: &[u8], table: Table, key: u64) {
+    let answer = hashmap::find(words, deltas, table, key);
+    text(b"find ");
+    number(key);
+    text(b": ");
+    let said = answer.said;
+    match said {
+        FindSaid::Found(value) => {
+            text(b"Found ");
+            number(value);
+        }
+        FindSaid::Absent => text(b"Absent"),
+        FindSaid::Shape => text(b"1"),
+        FindSaid::ZeroHash => text(b"2"),
+        FindSaid::Broken => text(b"5"),
+    }
+    after(answer.looked);
+}
+
+fn remove(words: &mut [u64], deltas: &[u8], table: Table, key: u64) -> Table {
+    let answer = hashmap::remove(words, deltas, table, key);
+    text(b"remove ");
+    number(key);
+    text(b": ");
+    let said = answer.said;
+    match said {
+        RemoveSaid::Removed(value) => {
+            text(b"Removed ");
+            number(value);
+        }
+        RemoveSaid::Absent => text(b"Absent"),
+        RemoveSaid::Shape => text(b"1"),
+        RemoveSaid::ZeroHash => text(b"2"),
+        RemoveSaid::Broken => text(b"5"),
+    }
+    after(answer.looked);
+    answer.table
+}
+
+// A fresh table; for slices of a wrong length a record that every call refuses.
+fn fresh(words: &mut [u64], deltas: &mut [u8]) -> Table {
+    match hashmap::clear(words, deltas, Hasher::Simple) {
+        ClearSaid::Cleared(table) => table,
+        ClearSaid::Shape => Table {
+            hasher: Hasher::Simple,
+            live: 65537,
+        },
+    }
+}
+
+fn live(table: Table) {
+    text(b"live ");
+    number(hashmap::len(table) as u64);
+    text(b"\n");
+}
+
+// The keys of the cells in order.
+fn show_keys(words: &[u64]) {
+    text(b"keys");
+    for i in 0..words.len() {
+        if i % 3 == 1 {
+            text(b" ");
+            number(words[i]);
+        }
+    }
+    text(b"\n");
+}
+
+fn wide(x: u8) -> u64 {
+    x as u64
+}
+
+fn show_deltas(deltas: &[u8]) {
+    text(b"deltas");
+    for i in 0..deltas.len() {
+        text(b" ");
+        number(wide(deltas[i]));
+    }
+    text(b"\n");
+}
+
+fn chained(words: &mut [u64], deltas: &mut [u8], table: Table) -> Table {
+    let t = insert(words, deltas, table, 8, 80);
+    let t = insert(words, deltas, t, 16, 160);
+    let t = insert(words, deltas, t, 24, 240);
+    insert(words, deltas, t, 1, 10)
+}
+
+fn one_and_two(words: &mut [u64], deltas: &mut [u8]) {
+    text(b"example 1\n");
+    let t = fresh(words, deltas);
+    let t = chained(words, deltas, t);
+    show_keys(words);
+    show_deltas(deltas);
+    text(b"example 2\n");
+    find(words, deltas, t, 1);
+}
+
+// The keys 1 to 4, each in its home.
+fn low_half(words: &mut [u64], deltas: &mut [u8], table: Table) -> Table {
+    let t = insert(words, deltas, table, 1, 10);
+    let t = insert(words, deltas, t, 2, 20);
+    let t = insert(words, deltas, t, 3, 30);
+    insert(words, deltas, t, 4, 40)
+}
+
+fn high_half(words: &mut [u64], deltas: &mut [u8], table: Table) -> Table {
+    let t = insert(words, deltas, table, 5, 50);
+    let t = insert(words, deltas, t, 6, 60);
+    let t = insert(words, deltas, t, 7, 70);
+    insert(words, deltas, t, 8, 80)
+}
+
+fn three_and_four(words: &mut [u64], deltas: &mut [u8]) {
+    text(b"example 3\n");
+    let t = fresh(words, deltas);
+    let t = low_half(words, deltas, t);
+    let t = high_half(words, deltas, t);
+    no_room(words, deltas, t);
+}
+
+fn no_room(words: &mut [u64], deltas: &mut [u8], table: Table) {
+    let t = insert(words, deltas, table, 9, 90);
+    text(b"example 4\n");
+    let t = insert(words, deltas, t, 0xffff_ffff_ffff_ffff, 7);
+    live(t);
+}
+
+fn five(words: &mut [u64], deltas: &mut [u8]) {
+    text(b"example 5\n");
+    let t = fresh(words, deltas);
+    let t = insert(words, deltas, t, 0xffff_ffff_ffff_ffff, 1);
+    let t = insert(words, deltas, t, 0xffff_ffff_ffff_fff7, 2);
+    show_keys(words);
+    show_deltas(deltas);
+    live(t);
+}
+
+fn six(words: &mut [u64], deltas: &mut [u8]) -> Table {
+    text(b"example 6\n");
+    let t = fresh(words, deltas);
+    let t = insert(words, deltas, t, 5, 50);
+    let t = remove(words, deltas, t, 5);
+    let t = insert(words, deltas, t, 5, 51);
+    live(t);
+    t
+}
+
+fn seven(words: &mut [u64], deltas: &mut [u8], table: Table) {
+    text(b"example 7\n");
+    let t = insert(words, deltas, table, 0, 1);
+    let t = insert(words, deltas, t, 6, 0xffff_ffff_ffff_fffe);
+    let t = insert(words, deltas, t, 6, 0xffff_ffff_ffff_ffff);
+    find(words, deltas, t, 6);
+}
+
+// 2+256j for so many j.
+fn fill(words: &mut [u64], deltas: &mut [u8], table: Table, count: u64) -> Table {
+    let mut t = table;
+    for j in 0..count {
+        let next = hashmap::insert(words, deltas, t, 2 + 256 * (j % 128), j);
+        t = next.table;
+    }
+    t
+}
+
+// 1, then 2+256j for so many j, then 257.
+fn crowded(words: &mut [u64], deltas: &mut [u8], count: u64) {
+    let start = fresh(words, deltas);
+    let first = hashmap::insert(words, deltas, start, 1, 1);
+    let one = first.table;
+    let t = fill(words, deltas, one, count);
+    last(words, deltas, t);
+}
+
+fn last(words: &mut [u64], deltas: &mut [u8], table: Table) {
+    let t = insert(words, deltas, table, 257, 3);
+    live(t);
+    if 1 < deltas.len() {
+        text(b"first delta of cell 1: ");
+        number(wide(deltas[1]));
+        text(b"\n");
+    }
+}
+
+fn main() {
+    let mut words = [0u64; 24];
+    let mut deltas = [0u8; 16];
+    one_and_two(&mut words, &mut deltas);
+    three_and_four(&mut words, &mut deltas);
+    five(&mut words, &mut deltas);
+    let t = six(&mut words, &mut deltas);
+    seven(&mut words, &mut deltas, t);
+    let mut more = [0u64; 768];
+    let mut bytes = [0u8; 512];
+    text(b"example 9\n");
+    crowded(&mut more, &mut bytes, 127);
+    text(b"example 10\n");
+    crowded(&mut more, &mut bytes, 128);
+}
