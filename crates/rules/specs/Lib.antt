@@ -4,3 +4,4 @@ pub mod Cells
 pub mod Walk
 pub mod Answers
 pub mod Calls
+pub mod Sound

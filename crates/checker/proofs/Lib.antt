@@ -1,0 +1,5 @@
+pub mod Chains
+pub mod Meets
+pub mod Counting
+pub mod Decides
+pub mod OneOutcome
