@@ -1,4 +1,5 @@
-// Runs the worked examples 1 to 7, 9 and 10 of document 01 and prints each answer with the cells looked at.
+// Runs the worked examples 1 to 7, 9 and 10 of document 01, and pairs of runs in two orders, and prints each answer with the
+// cells looked at.
 // The file stdout beside src/ is written from document 01.
 use hashers::Hasher;
 use hashmap::ClearSaid;
@@ -237,6 +238,67 @@ fn last(words: &mut [u64], deltas: &mut [u8], table: Table) {
     }
 }
 
+fn lookups(words: &[u64], deltas: &[u8], table: Table) {
+    show_keys(words);
+    show_deltas(deltas);
+    live(table);
+    find(words, deltas, table, 8);
+    find(words, deltas, table, 16);
+    find(words, deltas, table, 1);
+}
+
+// The keys 8 and 1, and 16 put in, taken out and put in again.
+fn one_order(words: &mut [u64], deltas: &mut [u8]) -> Table {
+    text(b"one order\n");
+    let t = fresh(words, deltas);
+    let t = insert(words, deltas, t, 8, 80);
+    let t = insert(words, deltas, t, 16, 160);
+    insert(words, deltas, t, 1, 10)
+}
+
+fn again(words: &mut [u64], deltas: &mut [u8], table: Table) -> Table {
+    let t = remove(words, deltas, table, 16);
+    insert(words, deltas, t, 16, 161)
+}
+
+// The same requests in another order, with the order on each key kept.
+fn another_order(words: &mut [u64], deltas: &mut [u8]) -> Table {
+    text(b"another order\n");
+    let t = fresh(words, deltas);
+    let t = insert(words, deltas, t, 1, 10);
+    insert(words, deltas, t, 16, 160)
+}
+
+fn ended(words: &mut [u64], deltas: &mut [u8], table: Table) -> Table {
+    let t = remove(words, deltas, table, 16);
+    let t = insert(words, deltas, t, 8, 80);
+    insert(words, deltas, t, 16, 161)
+}
+
+fn any_order(words: &mut [u64], deltas: &mut [u8]) {
+    text(b"any order, S = 8\n");
+    let t = one_order(words, deltas);
+    let t = again(words, deltas, t);
+    lookups(words, deltas, t);
+    reordered(words, deltas);
+}
+
+fn reordered(words: &mut [u64], deltas: &mut [u8]) {
+    let t = another_order(words, deltas);
+    let t = ended(words, deltas, t);
+    lookups(words, deltas, t);
+}
+
+// Example 10's keys with 257 second: none is Full. Above 128 cells, then, Full may appear in one order only.
+fn early(words: &mut [u64], deltas: &mut [u8]) {
+    text(b"any order, S = 256: example 10's keys, 257 second\n");
+    let t = fresh(words, deltas);
+    let t = insert(words, deltas, t, 1, 1);
+    let t = insert(words, deltas, t, 257, 3);
+    let t = fill(words, deltas, t, 128);
+    live(t);
+}
+
 fn main() {
     let mut words = [0u64; 24];
     let mut deltas = [0u8; 16];
@@ -251,4 +313,6 @@ fn main() {
     crowded(&mut more, &mut bytes, 127);
     text(b"example 10\n");
     crowded(&mut more, &mut bytes, 128);
+    any_order(&mut words, &mut deltas);
+    early(&mut more, &mut bytes);
 }
