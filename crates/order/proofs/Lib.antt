@@ -1,0 +1,13 @@
+pub mod Positions
+pub mod Meeting
+pub mod Readings
+pub mod Runs
+pub mod Number
+pub mod LiveKeys
+pub mod Room
+pub mod Tables
+pub mod TableRoom
+pub mod AnyOrder
+pub mod NoneFull
+pub mod Worked
+pub mod Needed
