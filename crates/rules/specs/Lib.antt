@@ -5,3 +5,4 @@ pub mod Walk
 pub mod Answers
 pub mod Calls
 pub mod Sound
+pub mod Growth
