@@ -2,7 +2,7 @@
 use mathlib.Core.Bool.{Bool, true, false, cond}
 use mathlib.Core.List.{List}
 use mathlib.Core.Path.{_≡_, refl, ap, fun-ext, _∙_}
-use Prim.Native.Nat.{ℕ, _+_, _*_, _<_}
+use Prim.Native.Nat.{ℕ, _+_, _*_, _≤_, _<_}
 use native.Mathlib.Omega.{arith}
 use borrow.Author.Tests.{eqb-true, eqb-false}
 use lib.Dec.{eqb}
@@ -111,15 +111,15 @@ module _ {S : ℕ} {ws ds : List ℕ} (s : Shaped S ws ds) where
   -- the lengths stay
   pub shape-kept : (c : Change) → Shaped S (wordsAfter c ws) (deltasAfter c ds)
   shape-kept nothing = s
-  shape-kept (store i v) = record { size = s .size; words = length-set ws (3 * i + 2) v ∙ s .words; deltas = s .deltas }
+  shape-kept (store i v) = record { size = s .size; words = omega (arith, s .words, length-set ws (3 * i + 2) v); deltas = s .deltas }
   shape-kept (fill i h k v l) =
       record {
         size = s .size;
-        words = length-set (set (set ws (3 * i) h) (3 * i + 1) k) (3 * i + 2) v ∙ length-set (set ws (3 * i) h) (3 * i + 1) k ∙ length-set ws (3 * i) h ∙ s .words;
+        words = omega (arith, s .words, length-set (set (set ws (3 * i) h) (3 * i + 1) k) (3 * i + 2) v, length-set (set ws (3 * i) h) (3 * i + 1) k, length-set ws (3 * i) h);
         deltas = links l;
       }
     where
-      links : (l : Link) → length (linked l ds) ≡ 2 * S
+      links : (l : Link) → 2 * S ≤ length (linked l ds)
       links unlinked = s .deltas
-      links (asFirst i d) = length-set ds (firstAt i) d ∙ s .deltas
-      links (asSecond i d) = length-set ds (secondAt i) d ∙ s .deltas
+      links (asFirst i d) = omega (arith, s .deltas, length-set ds (firstAt i) d)
+      links (asSecond i d) = omega (arith, s .deltas, length-set ds (secondAt i) d)

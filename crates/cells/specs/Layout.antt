@@ -2,7 +2,7 @@
 use mathlib.Core.Bool.{Bool, true, _&&_}
 use mathlib.Core.List.{List, [], _∷_}
 use mathlib.Core.Path.{_≡_}
-use Prim.Native.Nat.{ℕ, zero, suc, _+_, _*_, _/_, _%_}
+use Prim.Native.Nat.{ℕ, zero, suc, _+_, _*_, _/_, _%_, _≤_}
 use lib.Dec.{eqb}
 use lib.ListN.{length, getD, set, replicate}
 use Rattle.hashers.specs.Keys.{hashOf}
@@ -124,11 +124,11 @@ leftBy o t ws ds = record { done = doneBy o ws ds; hasher = t .hasher }
 
 -- ---- for the workers behind check 1
 
--- what check 1 gives them
+-- what check 1 gives them: the slices hold S cells, and may go on past them
 pub record Shaped (S : ℕ) (ws ds : List ℕ) : Type 0 where
   pub size : isSize S ≡ true
-  pub words : length ws ≡ 3 * S
-  pub deltas : length ds ≡ 2 * S
+  pub words : 3 * S ≤ length ws
+  pub deltas : 2 * S ≤ length ds
 
 -- the number under which a value is refused
 abbrev pub offeredBy : Offered → ℕ

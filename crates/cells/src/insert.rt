@@ -119,7 +119,7 @@ fn insert_home(
 
 // The distance of a new cell, into the home's first delta where no link was followed, else into the tail's second.
 fn link(deltas: &mut [u8], size: usize, looked: usize, hash: u64, tail: u64, d: usize)
-    requires { ⌜ (isSize size ≡ true) × (length (now deltas) ≡ 2 * size) × (d < 256) ⌝ }
+    requires { ⌜ (isSize size ≡ true) × (2 * size ≤ length (now deltas)) × (d < 256) ⌝ }
     ensures { λ _. ⌜ now (deltas .exit) ≡ linked (linkFrom size looked hash tail d) (now (deltas .entry)) ⌝ }
 {
     if looked == 1 {

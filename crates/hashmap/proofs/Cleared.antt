@@ -6,7 +6,7 @@ use Prim.Native.Nat.{ℕ, _*_}
 use lib.ListN.{length, replicate}
 use Rattle.hashers.specs.declared.Hasher.{Hasher}
 use Rattle.cells.specs.Layout.{isShaped, sizeIn, freshWords, freshDeltas}
-use Rattle.cells.proofs.Shapes.{shaped}
+use Rattle.cells.proofs.Shapes.{exact-lengths}
 use Rattle.hashmap.specs.Answers.{Cleared, cleared, refuses, clearRule}
 
 module _ (ws ds : List ℕ) (hasher : Hasher) where
@@ -14,7 +14,7 @@ module _ (ws ds : List ℕ) (hasher : Hasher) where
       → record { said = cleared (record { hasher = hasher; live = 0 }); words = ws′; deltas = ds′ } ≡ clearRule ws ds hasher
   unfolding clearRule
   clears e ws′ ds′ a b =
-      let l = ap (λ (n : ℕ). replicate {A = ℕ} n 0) (shaped ws ds e .deltas) in
+      let l = ap (λ (n : ℕ). replicate {A = ℕ} n 0) (exact-lengths ws ds e .1) in
       rw e (λ i. record { said = cleared (record { hasher = hasher; live = 0 }); words = a i; deltas = (b ∙ l) i })
 
   pub keeps : isShaped ws ds ≡ false → record { said = refuses 1; words = ws; deltas = ds } ≡ clearRule ws ds hasher

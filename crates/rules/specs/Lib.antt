@@ -6,3 +6,5 @@ pub mod Answers
 pub mod Calls
 pub mod Sound
 pub mod Growth
+pub mod Moves
+pub mod Growing

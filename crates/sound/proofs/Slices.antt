@@ -71,8 +71,8 @@ module _ (S : ℕ) (size : isSize S ≡ true) (hasher : Hasher) where
         empty = λ i u. fresh-at S i (rw half at u) .0;
         clear = λ i u.
             let v : i < S = rw half at u in
-            let d = deltas-hold S (freshDeltas S) i size (length-replicate (2 * S) 0) v in
             let m : length (freshDeltas S) ≡ 2 * S = length-replicate (2 * S) 0 in
+            let d = deltas-hold S (freshDeltas S) i size (omega arith) v in
             record {
               no-key = fresh-at S i v .1;
               no-value = fresh-at S i v .2;

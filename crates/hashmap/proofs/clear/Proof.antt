@@ -1,7 +1,7 @@
 -- `hashmap::clear` meets its contract. Assumes nothing.
 use borrow.Author.Needs.{needs}
 use mathlib.Core.Path.{sym, _∙_}
-use Rattle.cells.proofs.Shapes.{shaped}
+use Rattle.cells.proofs.Shapes.{exact-lengths}
 use Rattle.hashmap.proofs.Cleared.{clears, keeps}
 use Rattle.hashmap.proofs.clear.Statement.{statement}
 use Rattle.hashmap.proofs.clear.Tie as tie
@@ -10,7 +10,7 @@ is-shaped-requires : tie.Need-is-shaped-requires
 is-shaped-requires c κs = search needs
 
 clear-words-requires : tie.Need-clear-words-requires
-clear-words-requires c κs = shaped _ _ (sym (c .before .before .is-shaped .ensures) ∙ c .before .if1 .taken) .words
+clear-words-requires c κs = exact-lengths _ _ (sym (c .before .before .is-shaped .ensures) ∙ c .before .if1 .taken) .0
 
 clear-deltas-requires : tie.Need-clear-deltas-requires
 clear-deltas-requires c κs = search needs

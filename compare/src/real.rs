@@ -1,0 +1,170 @@
+//! The Rust behind requests: what it answers, in document 01's words, where a request lies on its domain.
+use crate::form::*;
+use crate::model::{Hasher, NULL};
+use crate::served::{hasher_number, hasher_of, Served};
+use leapfrog::hashmap::peek::{self, Fixed, Map};
+use leapfrog::{FnvHasher, MurmurHasher, SimpleHasher};
+
+/// The Rust's map, whatever its hasher.
+pub trait Rust {
+    fn insert(&mut self, key: u64, value: u64) -> Option<u64>;
+    fn insert_fixed(&mut self, key: u64, value: u64) -> Fixed;
+    fn get(&self, key: u64) -> Option<u64>;
+    fn remove(&mut self, key: u64) -> Option<u64>;
+    fn contains_key(&self, key: u64) -> bool;
+    fn get_key_value(&self, key: u64) -> Option<(u64, u64)>;
+    fn len(&self) -> usize;
+    fn is_empty(&self) -> bool;
+    fn capacity(&self) -> usize;
+    fn hash(&self, key: u64) -> u64;
+    fn cell(&self, i: usize) -> [u64; 3];
+    fn deltas(&self, b: usize) -> [u8; 8];
+    fn claimed(&self) -> usize;
+}
+
+impl<H: std::hash::Hasher + Default> Rust for Map<H> {
+    fn insert(&mut self, key: u64, value: u64) -> Option<u64> {
+        Map::insert(self, key, value)
+    }
+    fn insert_fixed(&mut self, key: u64, value: u64) -> Fixed {
+        peek::insert_fixed(self, key, value)
+    }
+    fn get(&self, key: u64) -> Option<u64> {
+        Map::get(self, &key).copied()
+    }
+    fn remove(&mut self, key: u64) -> Option<u64> {
+        Map::remove(self, &key)
+    }
+    fn contains_key(&self, key: u64) -> bool {
+        Map::contains_key(self, &key)
+    }
+    fn get_key_value(&self, key: u64) -> Option<(u64, u64)> {
+        Map::get_key_value(self, &key).map(|(k, v)| (*k, *v))
+    }
+    fn len(&self) -> usize {
+        Map::len(self)
+    }
+    fn is_empty(&self) -> bool {
+        Map::is_empty(self)
+    }
+    fn capacity(&self) -> usize {
+        Map::capacity(self)
+    }
+    fn hash(&self, key: u64) -> u64 {
+        self.hash_usize(&key) as u64
+    }
+    fn cell(&self, i: usize) -> [u64; 3] {
+        peek::cell(self, i)
+    }
+    fn deltas(&self, b: usize) -> [u8; 8] {
+        peek::deltas(self, b)
+    }
+    fn claimed(&self) -> usize {
+        peek::claimed(self)
+    }
+}
+
+/// A fresh table of the Rust's.
+pub fn fresh(size: usize, hasher: Hasher) -> Box<dyn Rust> {
+    match hasher {
+        Hasher::Simple => Box::new(Map::<SimpleHasher>::with_capacity_and_hasher(size, Default::default())),
+        Hasher::Murmur => Box::new(Map::<MurmurHasher>::with_capacity_and_hasher(size, Default::default())),
+        Hasher::Fnv => Box::new(Map::<FnvHasher>::with_capacity_and_hasher(size, Default::default())),
+    }
+}
+
+/// The Rust beside the model: a map while the table is one made by calls, none while it is forged.
+#[derive(Default)]
+pub struct Real {
+    map: Option<Box<dyn Rust>>,
+    /// How many inserts revived a key: the Rust's `len` is short by so many (docs/DIFFERENCES.md).
+    revived: u64,
+}
+
+impl Real {
+    /// The Rust's answer to a request that the model answered so, or none where the request is off its domain.
+    pub fn serve(&mut self, request: &Request, model: &Answer, served: &Served) -> Option<Answer> {
+        match request.kind {
+            TABLE | CLEAR if model.number == number("Cleared") => {
+                self.map = Some(fresh(model.capacity as usize, hasher_of(model.hasher)?));
+                self.revived = 0;
+            }
+            TABLE | LEND | RECORD | WORD | DELTA | COPY | CHANGE => self.map = None,
+            _ => (),
+        }
+        let map = self.map.as_mut()?;
+        let mut answer = *model;
+        let asked = ask(map.as_mut(), &mut self.revived, request, model.number);
+        if let Some((number, values)) = asked {
+            (answer.number, answer.values) = (number, values);
+        }
+        answer.capacity = map.capacity() as u64;
+        answer.live = (map.len() as u64).wrapping_add(self.revived);
+        if model.digest != 0 {
+            answer.digest = digest(map.as_ref(), answer.live, model.hasher, served);
+        }
+        asked.map(|_| answer).or_else(|| (answer != *model).then_some(answer))
+    }
+}
+
+/// Asks the Rust, and puts what it gives into document 01's words: number and values. None where it is not to be asked.
+fn ask(map: &mut dyn Rust, revived: &mut u64, request: &Request, model: u64) -> Option<(u64, [u64; 3])> {
+    let [key, value, ..] = request.args;
+    let told = |said: &str, value: u64| Some((number(said), [value, 0, 0]));
+    if [INSERT, FIND, REMOVE, CONTAINS_KEY, GET_KEY_VALUE].contains(&request.kind) && map.hash(key) == 0 {
+        return None;
+    }
+    match request.kind {
+        TABLE | CLEAR => told("Cleared", 0),
+        DIGEST => told("done", 0),
+        INSERT if value == NULL => None,
+        INSERT => inserted(insert(map, key, value, model), revived),
+        FIND => map.get(key).map_or(told("Absent", 0), |value| told("Found", value)),
+        REMOVE => map.remove(key).map_or(told("Absent", 0), |value| told("Removed", value)),
+        CONTAINS_KEY => told(if map.contains_key(key) { "yes" } else { "no" }, 0),
+        GET_KEY_VALUE => match map.get_key_value(key) {
+            // a removed key is shown with null: on the list of differences
+            None | Some((_, NULL)) => told("Absent", 0),
+            Some((key, value)) => Some((number("Pair"), [key, value, 0])),
+        },
+        LEN => told("Number", (map.len() as u64).wrapping_add(*revived)),
+        IS_EMPTY if *revived == 0 => told(if map.is_empty() { "yes" } else { "no" }, 0),
+        CAPACITY => told("Number", map.capacity() as u64),
+        HASH => told("Number", map.hash(key)),
+        _ => None,
+    }
+}
+
+/// The public insert, or, where the model says Full and the public one would grow, its private body at fixed size.
+fn insert(map: &mut dyn Rust, key: u64, value: u64, model: u64) -> Fixed {
+    if model == number("refused 4 Full") {
+        return map.insert_fixed(key, value);
+    }
+    map.insert(key, value).map_or(Fixed::New, Fixed::Found)
+}
+
+fn inserted(fixed: Fixed, revived: &mut u64) -> Option<(u64, [u64; 3])> {
+    let (said, value) = match fixed {
+        Fixed::New => ("New", 0),
+        Fixed::Found(NULL) => {
+            *revived += 1;
+            ("Revived", 0)
+        }
+        Fixed::Found(old) => ("Replaced", old),
+        Fixed::Overflow(position) => ("refused 4 Full", position as u64),
+    };
+    Some((number(said), [value, 0, 0]))
+}
+
+/// The digest of the Rust's own cells and deltas, laid out as document 01 has them.
+fn digest(map: &dyn Rust, live: u64, hasher: u64, served: &Served) -> u64 {
+    let size = map.capacity();
+    let words: Vec<u64> = (0..size).flat_map(|i| map.cell(i)).collect();
+    let deltas: Vec<u8> = (0..size / 4).flat_map(|b| map.deltas(b)).collect();
+    let mut digest = Digest::new(hasher, live);
+    digest.words(&words);
+    digest.bytes(&deltas);
+    served.spare_digest(&mut digest);
+    debug_assert_eq!(hasher_number(hasher_of(hasher).unwrap()), hasher);
+    digest.0
+}

@@ -1,0 +1,107 @@
+//! Writes the list that the program `replay` replays, and the answers to the sample that the program `answers` is run on.
+use crate::form::*;
+use crate::keys::*;
+use crate::model::Hasher;
+use crate::real::Real;
+use crate::scenes::{self, Scene};
+use crate::served::Served;
+use std::fs;
+
+const HEAD: &str = "\
+# Requests with recorded answers, written by compare/record; compare/README.md says how the list is made.
+# An answer and the table after it, by its digest, are the Rust's own, and the count of cells looked at is the model's.
+# Where a line ends in '# model' the request lies off the Rust's domain, and all is the model's.
+";
+
+/// Answers a request by the model and, on its domain, by the Rust, which must agree. The line that is recorded.
+fn line(served: &mut Served, real: &mut Real, request: &Request) -> String {
+    let answer = served.serve(request);
+    let of_rust = real.serve(request, &answer, served);
+    if let Some(given) = of_rust {
+        assert_eq!(given, answer, "the Rust and the model differ at {}", request.text());
+    }
+    let origin = if of_rust.is_some() { "" } else { " # model" };
+    format!("{}: {}{origin}\n", request.text(), answer.text(request.kind))
+}
+
+/// The scenes of the list: a few of each kind.
+fn list(random: &mut Random) -> Vec<(&'static str, Vec<Scene>)> {
+    let all_short = [
+        scenes::short(4, &[], &[1, 9, 17, 2]),
+        scenes::short(3, &[], &[u64::MAX, u64::MAX - 8, 7, 8, 15]),
+        scenes::short(3, &[2, 3, 4, 5, 6, 7], &[1, 9, 17, 8]),
+    ]
+    .concat();
+    let short = (0..40).map(|_| all_short[random.below(all_short.len() as u64) as usize].clone()).collect();
+    let mut life = Vec::new();
+    let mut crowd = Vec::new();
+    for hasher in HASHERS {
+        for size in [8, 16, 32] {
+            life.push(scenes::life(random, size, hasher, 3 * size, true));
+            crowd.push(scenes::crowd(random, size, hasher, 30));
+        }
+        life.push(scenes::life(random, 128, hasher, 90, true));
+    }
+    let window = vec![scenes::window(random, 128, Hasher::Murmur), scenes::window(random, 256, Hasher::Simple)];
+    let spoilt = (0..10).map(|i| scenes::spoilt(random, 8 << (i % 2), HASHERS[i % 3], 30)).collect();
+    let forged = (0..4).map(|i| scenes::forged(random, 8, HASHERS[i % 3], 20)).collect();
+    let chains = vec![scenes::chain(8, 7, 16), scenes::chain(8, 8, 16), scenes::chain(8, 7, 8)];
+    let lengths = [(23, 16, 0), (24, 17, 0), (24, 16, 9), (36, 24, 0), (24, 16, 8)];
+    let lengths = lengths.iter().map(|l| scenes::lengths(l.0, l.1, l.2, Hasher::Simple)).collect();
+    vec![
+        ("the worked examples 1 to 7, 9 and 10 of document 01", scenes::worked()),
+        ("short sequences", short),
+        ("tables in everyday use", life),
+        ("keys of few homes", crowd),
+        ("a full window", window),
+        ("spoilt tables", spoilt),
+        ("forged memory", forged),
+        ("chains at the limit", chains),
+        ("lengths and records that no table has", lengths),
+    ]
+}
+
+/// Writes crates/replay/stdin and stdout, and crates/answers/stdout.
+pub fn record() -> bool {
+    let (mut served, mut real) = (Served::default(), Real::default());
+    let mut text = HEAD.to_string();
+    let mut requests = 0;
+    let mut of_model = 0;
+    for (name, scenes) in list(&mut Random(20_240_115)) {
+        text += &format!("# {name}\n");
+        for request in scenes.concat() {
+            if request == Request::new(DIGESTS, &[served.digests as u64]) {
+                continue;
+            }
+            let line = line(&mut served, &mut real, &request);
+            requests += 1;
+            of_model += line.ends_with("# model\n") as u64;
+            text += &line;
+        }
+    }
+    fs::write("crates/replay/stdin", &text).unwrap();
+    fs::write("crates/replay/stdout", format!("{requests} requests, 0 differences\n")).unwrap();
+    let sample = fs::read_to_string("crates/answers/stdin").unwrap();
+    fs::write("crates/answers/stdout", answers(&sample)).unwrap();
+    println!("{requests} requests, {} of them with the Rust's own answer, {} bytes", requests - of_model, text.len());
+    true
+}
+
+/// What the program `answers` is to write for requests as text.
+fn answers(requests: &str) -> String {
+    let mut served = Served::default();
+    let mut text = String::new();
+    for line in requests.lines() {
+        text += line;
+        if line.is_empty() || line.starts_with('#') {
+            text += "\n";
+            continue;
+        }
+        let request = Request::from_text(line).expect(line);
+        text += &format!(": {}\n", served.serve(&request).text(request.kind));
+        if request.kind == SHOW {
+            text += &served.cells();
+        }
+    }
+    text
+}

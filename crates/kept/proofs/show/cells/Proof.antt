@@ -1,0 +1,34 @@
+-- `kept::show::cells` meets its contract. Assumes nothing.
+use borrow.Author.Needs.{needs}
+use Prim.Native.Nat.{_-_}
+use Rattle.kept.proofs.show.cells.Statement.{statement}
+use Rattle.kept.proofs.show.cells.Tie as tie
+
+abbrev Inv-loop : tie.InvT-loop
+Inv-loop words deltas count i₀ i = Unit {0}
+
+abbrev μ-loop : tie.MeasureT-loop
+μ-loop words deltas count i₀ i = count - i
+
+loop-holds : tie.Need-loop-holds Inv-loop μ-loop
+loop-holds c = search needs
+
+cell-requires : tie.Need-cell-requires Inv-loop μ-loop
+cell-requires c κs = search needs
+
+add-i : tie.Need-add-i Inv-loop μ-loop
+add-i c = search needs
+
+loop-less : tie.Need-loop-less Inv-loop μ-loop
+loop-less c = search needs
+
+loop-again : tie.Need-loop-again Inv-loop μ-loop
+loop-again c = search needs
+
+returns : tie.Need-returns Inv-loop μ-loop
+returns c = search needs
+
+pub cells-spec : {M : Type 1} → statement M
+cells-spec =
+    tie.close
+    (tie.spec Inv-loop μ-loop loop-holds cell-requires add-i loop-less loop-again returns)
