@@ -29,6 +29,7 @@ pub const CAPACITY: u64 = 23;
 pub const CONTAINS_KEY: u64 = 24;
 pub const GET_KEY_VALUE: u64 = 25;
 pub const HASH: u64 = 26;
+pub const CHECK: u64 = 27;
 pub const TAKE: u64 = 32;
 pub const COPY: u64 = 33;
 pub const CELL: u64 = 34;
@@ -58,6 +59,7 @@ pub const KINDS: &[(u64, &str, &str)] = &[
     (CONTAINS_KEY, "contains_key", "n"),
     (GET_KEY_VALUE, "get_key_value", "n"),
     (HASH, "hash", "n"),
+    (CHECK, "check", ""),
     (TAKE, "take", "n"),
     (COPY, "copy", "nn"),
     (CELL, "cell", "nn"),
@@ -72,6 +74,7 @@ pub const SAID: &[(u64, &str)] = &[
     (3, "refused 3 Null"),
     (4, "refused 4 Full"),
     (5, "refused 5 Broken"),
+    (9, "refused 9 Unsound"),
     (16, "done"),
     (17, "New"),
     (18, "Replaced"),
@@ -87,6 +90,7 @@ pub const SAID: &[(u64, &str)] = &[
     (28, "Taken"),
     (29, "Put"),
     (30, "Cell"),
+    (31, "Sound"),
 ];
 
 pub fn said(number: u64) -> &'static str {

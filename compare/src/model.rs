@@ -4,7 +4,7 @@
 pub const NULL: u64 = u64::MAX - 1;
 const LEAST: usize = 8;
 const GREATEST: usize = 65_536;
-const WINDOW: usize = 128;
+pub const WINDOW: usize = 128;
 
 #[derive(Clone, Copy, PartialEq, Debug)]
 pub enum Hasher {
@@ -98,7 +98,7 @@ impl Table<'_> {
     }
 
     /// Check 1 of the calls that are lent a record: live is at most S too.
-    fn shaped(&self) -> Option<usize> {
+    pub fn shaped(&self) -> Option<usize> {
         self.size().filter(|size| self.record.live <= *size as u64)
     }
 

@@ -1,20 +1,31 @@
 //! Runs the program `answers`, hands it requests and compares its answers with those that are wanted.
 use crate::form::*;
+use crate::orders::{Held, Pair};
 use std::collections::BTreeMap;
 use std::io::{BufReader, BufWriter, Read, Write};
 use std::process::{Child, ChildStdin, Command, Stdio};
 use std::sync::mpsc::{channel, Sender};
 use std::thread::JoinHandle;
 
-/// Requests with the answers that are wanted.
-pub type Batch = Vec<(Request, Answer)>;
+/// Requests with the answers that are wanted, and the pair of runs that they are, if any.
+pub struct Batch {
+    pub wanted: Vec<(Request, Answer)>,
+    pub pair: Option<Pair>,
+}
+
+/// What came of the program's answers: how many differ from those wanted, and the pairs of runs.
+#[derive(Default)]
+pub struct Given {
+    pub differences: u64,
+    pub orders: Held,
+}
 
 /// The running program: requests go in here, and a thread reads and compares.
 pub struct Program {
     child: Child,
     input: BufWriter<ChildStdin>,
     batches: Sender<Batch>,
-    reader: JoinHandle<u64>,
+    reader: JoinHandle<Given>,
 }
 
 impl Program {
@@ -32,26 +43,27 @@ impl Program {
         input.write_all(&Request::new(NOTHING, &[]).bytes()).unwrap();
         let reader = std::thread::spawn(move || {
             read_answer(&mut output);
-            queue.iter().map(|batch| compare(&mut output, &batch)).sum()
+            let mut given = Given::default();
+            queue.iter().for_each(|batch| given.compare(&mut output, &batch));
+            given
         });
         Program { child, input, batches, reader }
     }
 
     pub fn send(&mut self, batch: Batch) {
-        let bytes: Vec<u8> = batch.iter().flat_map(|b| b.0.bytes()).collect();
+        let bytes: Vec<u8> = batch.wanted.iter().flat_map(|b| b.0.bytes()).collect();
         // first to the reader: it must empty one pipe while the other is filled
         self.batches.send(batch).unwrap();
         self.input.write_all(&bytes).unwrap();
     }
 
-    /// How many answers differ from those wanted.
-    pub fn end(self) -> u64 {
+    pub fn end(self) -> Given {
         let Program { mut child, input, batches, reader } = self;
         drop(input.into_inner().unwrap());
         drop(batches);
-        let differences = reader.join().unwrap();
+        let given = reader.join().unwrap();
         assert!(child.wait().unwrap().success(), "the program ended badly");
-        differences
+        given
     }
 }
 
@@ -61,19 +73,20 @@ fn read_answer(output: &mut impl Read) -> Answer {
     Answer::from_bytes(&bytes)
 }
 
-fn compare(output: &mut impl Read, batch: &Batch) -> u64 {
-    let mut differences = 0;
-    for (i, (_, wanted)) in batch.iter().enumerate() {
-        let given = read_answer(output);
-        if given != *wanted {
-            differences += 1;
-            if differences == 1 {
-                println!("\nthe program differs from the model:");
-                report(batch.iter().map(|b| b.0), i, *wanted, given);
-            }
+impl Given {
+    fn compare(&mut self, output: &mut impl Read, batch: &Batch) {
+        let answers: Vec<Answer> = batch.wanted.iter().map(|_| read_answer(output)).collect();
+        let differing = |i: &usize| answers[*i] != batch.wanted[*i].1;
+        let differing: Vec<usize> = (0..answers.len()).filter(differing).collect();
+        if let Some(i) = differing.first().filter(|_| self.differences < 3) {
+            println!("\nthe program differs from the model:");
+            report(batch.wanted.iter().map(|b| b.0), *i, batch.wanted[*i].1, answers[*i]);
+        }
+        self.differences += differing.len() as u64;
+        if let Some(pair) = &batch.pair {
+            self.orders.hold(pair, &answers);
         }
     }
-    differences
 }
 
 /// Prints the requests since the last fresh table, as lines that ./run takes, and both answers.
@@ -95,6 +108,9 @@ pub struct Figures {
     pub said: BTreeMap<(u64, u64), u64>,
     pub of_rust: u64,
     pub requests: u64,
+    /// Checked tables that fail one rule alone, by the rule, and those that fail several.
+    alone: [u64; 8],
+    several: u64,
     scenes: Vec<(&'static str, u64)>,
 }
 
@@ -103,6 +119,15 @@ impl Figures {
         *self.said.entry((request.kind, answer.number)).or_default() += 1;
         self.requests += 1;
         self.of_rust += of_rust as u64;
+    }
+
+    /// A table was checked that fails these rules.
+    pub fn fails(&mut self, rules: &[usize]) {
+        match rules {
+            [] => (),
+            [rule] => self.alone[rule - 1] += 1,
+            _ => self.several += 1,
+        }
     }
 
     /// The requests since `before` were of that kind of scene.
@@ -128,5 +153,8 @@ impl Figures {
             let each: Vec<String> = row.iter().map(|(k, n)| format!("{} {n}", said(k.1))).collect();
             println!("{name:>14} {all:>9}: {}", each.join(", "));
         }
+        println!();
+        let alone: Vec<String> = (1..=8).map(|rule| format!("{rule}: {}", self.alone[rule - 1])).collect();
+        println!("unsound by one of the eight rules alone: {}; by several: {}", alone.join(", "), self.several);
     }
 }

@@ -1,7 +1,8 @@
 //! The Rust behind requests: what it answers, in document 01's words, where a request lies on its domain.
 use crate::form::*;
-use crate::model::{Hasher, NULL};
-use crate::served::{hasher_number, hasher_of, Served};
+use crate::model::{Hasher, Record, Table, NULL};
+use crate::served::{checked, hasher_number, hasher_of, Served};
+use crate::sound::Check;
 use leapfrog::hashmap::peek::{self, Fixed, Map};
 use leapfrog::{FnvHasher, MurmurHasher, SimpleHasher};
 
@@ -79,6 +80,10 @@ pub struct Real {
     map: Option<Box<dyn Rust>>,
     /// How many inserts revived a key: the Rust's `len` is short by so many (docs/DIFFERENCES.md).
     revived: u64,
+    /// How often its cells and deltas were read, held to the model's checker, and not sound.
+    read: u64,
+    pub checked: u64,
+    pub unsound: u64,
 }
 
 impl Real {
@@ -100,8 +105,20 @@ impl Real {
         }
         answer.capacity = map.capacity() as u64;
         answer.live = (map.len() as u64).wrapping_add(self.revived);
-        if model.digest != 0 {
-            answer.digest = digest(map.as_ref(), answer.live, model.hasher, served);
+        if model.digest != 0 || request.kind == CHECK {
+            let record = Record { hasher: hasher_of(model.hasher)?, live: answer.live };
+            let mut laid = Laid::of(map.as_ref(), record);
+            self.read += 1;
+            // up to 64 cells each time, in larger tables the more seldom the larger they are
+            if [CHECK, DIGEST].contains(&request.kind) || self.read % (answer.capacity / 64).max(1) == 0 {
+                let check = laid.check();
+                self.checked += 1;
+                self.unsound += (check != Check::Sound) as u64;
+                answer.number = if request.kind == CHECK { number(checked(check)) } else { answer.number };
+            }
+            if model.digest != 0 {
+                answer.digest = laid.digest(served);
+            }
         }
         asked.map(|_| answer).or_else(|| (answer != *model).then_some(answer))
     }
@@ -131,6 +148,8 @@ fn ask(map: &mut dyn Rust, revived: &mut u64, request: &Request, model: u64) -> 
         IS_EMPTY if *revived == 0 => told(if map.is_empty() { "yes" } else { "no" }, 0),
         CAPACITY => told("Number", map.capacity() as u64),
         HASH => told("Number", map.hash(key)),
+        // it has no checker: the model's says of its cells what is to be said
+        CHECK => told("Sound", 0),
         _ => None,
     }
 }
@@ -156,15 +175,30 @@ fn inserted(fixed: Fixed, revived: &mut u64) -> Option<(u64, [u64; 3])> {
     Some((number(said), [value, 0, 0]))
 }
 
-/// The digest of the Rust's own cells and deltas, laid out as document 01 has them.
-fn digest(map: &dyn Rust, live: u64, hasher: u64, served: &Served) -> u64 {
-    let size = map.capacity();
-    let words: Vec<u64> = (0..size).flat_map(|i| map.cell(i)).collect();
-    let deltas: Vec<u8> = (0..size / 4).flat_map(|b| map.deltas(b)).collect();
-    let mut digest = Digest::new(hasher, live);
-    digest.words(&words);
-    digest.bytes(&deltas);
-    served.spare_digest(&mut digest);
-    debug_assert_eq!(hasher_number(hasher_of(hasher).unwrap()), hasher);
-    digest.0
+/// The Rust's own cells and deltas, laid out as document 01 has them, with its `len` translated as live count.
+struct Laid {
+    words: Vec<u64>,
+    deltas: Vec<u8>,
+    record: Record,
+}
+
+impl Laid {
+    fn of(map: &dyn Rust, record: Record) -> Laid {
+        let size = map.capacity();
+        let words = (0..size).flat_map(|i| map.cell(i)).collect();
+        let deltas = (0..size / 4).flat_map(|b| map.deltas(b)).collect();
+        Laid { words, deltas, record }
+    }
+
+    fn check(&mut self) -> Check {
+        Table { words: &mut self.words, deltas: &mut self.deltas, record: &mut self.record }.check()
+    }
+
+    fn digest(&self, served: &Served) -> u64 {
+        let mut digest = Digest::new(hasher_number(self.record.hasher), self.record.live);
+        digest.words(&self.words);
+        digest.bytes(&self.deltas);
+        served.spare_digest(&mut digest);
+        digest.0
+    }
 }

@@ -1,10 +1,13 @@
 //! Writes the list that the program `replay` replays, and the answers to the sample that the program `answers` is run on.
+use crate::checks;
 use crate::form::*;
 use crate::keys::*;
 use crate::model::Hasher;
+use crate::orders;
 use crate::real::Real;
 use crate::scenes::{self, Scene};
 use crate::served::Served;
+use std::collections::BTreeSet;
 use std::fs;
 
 const HEAD: &str = "\
@@ -46,8 +49,12 @@ fn list(random: &mut Random) -> Vec<(&'static str, Vec<Scene>)> {
     let spoilt = (0..10).map(|i| scenes::spoilt(random, 8 << (i % 2), HASHERS[i % 3], 30)).collect();
     let forged = (0..4).map(|i| scenes::forged(random, 8, HASHERS[i % 3], 20)).collect();
     let chains = vec![scenes::chain(8, 7, 16), scenes::chain(8, 8, 16), scenes::chain(8, 7, 8)];
-    let lengths = [(23, 16, 0), (24, 17, 0), (24, 16, 9), (36, 24, 0), (24, 16, 8)];
+    let lengths = [(23, 16, 0), (24, 17, 0), (24, 16, 9), (36, 24, 0), (24, 16, 8), (24, 16, 0), (12, 8, 0), (393_216, 262_144, 0)];
     let lengths = lengths.iter().map(|l| scenes::lengths(l.0, l.1, l.2, Hasher::Simple)).collect();
+    let sound = HASHERS.iter().flat_map(|hasher| checks::made(random, 8, *hasher)).step_by(4).map(|checked| checked.scene).collect();
+    let unsound = (0..6).map(|i| checks::spoilt(random, 8 << (i % 2), HASHERS[i % 3], 1).scene).collect();
+    let mut pairs: Vec<Scene> = (0..6).map(|i| orders::pair(random, 8 << (i % 2), HASHERS[i % 3]).scene()).collect();
+    pairs.push(orders::one_full().scene());
     vec![
         ("the worked examples 1 to 7, 9 and 10 of document 01", scenes::worked()),
         ("short sequences", short),
@@ -58,6 +65,9 @@ fn list(random: &mut Random) -> Vec<(&'static str, Vec<Scene>)> {
         ("forged memory", forged),
         ("chains at the limit", chains),
         ("lengths and records that no table has", lengths),
+        ("tables made by calls, checked", sound),
+        ("the same spoilt in one place and another, checked", unsound),
+        ("lists, each followed by a reordering", pairs),
     ]
 }
 
@@ -67,6 +77,7 @@ pub fn record() -> bool {
     let mut text = HEAD.to_string();
     let mut requests = 0;
     let mut of_model = 0;
+    let mut alone = BTreeSet::new();
     for (name, scenes) in list(&mut Random(20_240_115)) {
         text += &format!("# {name}\n");
         for request in scenes.concat() {
@@ -75,10 +86,14 @@ pub fn record() -> bool {
             }
             let line = line(&mut served, &mut real, &request);
             requests += 1;
+            if request.kind == CHECK {
+                alone.extend(served.table().fails().filter(|rules| rules.len() == 1).unwrap_or_default());
+            }
             of_model += line.ends_with("# model\n") as u64;
             text += &line;
         }
     }
+    assert_eq!(alone.len(), 8, "each of the eight rules fails alone somewhere in the list");
     fs::write("crates/replay/stdin", &text).unwrap();
     fs::write("crates/replay/stdout", format!("{requests} requests, 0 differences\n")).unwrap();
     let sample = fs::read_to_string("crates/answers/stdin").unwrap();

@@ -1,6 +1,9 @@
 //! The run: every scene goes to the model, to the Rust where it lies on its domain, and to the program.
+use crate::checks::{self, Checked};
+use crate::form::*;
 use crate::keys::*;
-use crate::program::{report, Figures, Program};
+use crate::orders::{self, Held, Pair};
+use crate::program::{report, Batch, Figures, Program};
 use crate::real::Real;
 use crate::scenes::{self, Scene};
 use crate::served::Served;
@@ -10,13 +13,26 @@ struct Judge {
     real: Real,
     program: Program,
     figures: Figures,
+    /// The pairs of runs, by the model's answers and by the Rust's.
+    orders: [Held; 2],
+    /// How often the model did not say of a table what its scene says.
+    unexpected: u64,
     differences: u64,
 }
 
+/// What a scene was answered: by the model, and by the Rust with the model's answer where it was not asked. For each check the
+/// rules that fail, none where check 1 refuses.
+#[derive(Default)]
+struct Played {
+    answers: Vec<Answer>,
+    of_rust: Vec<Answer>,
+    checks: Vec<Option<Vec<usize>>>,
+}
+
 impl Judge {
-    /// The model answers, the Rust is held to it, and the program is handed the requests.
-    fn scene(&mut self, scene: &Scene) {
-        let mut batch = Vec::with_capacity(scene.len());
+    /// The model answers, and the Rust is held to it.
+    fn play(&mut self, scene: &Scene) -> Played {
+        let mut played = Played::default();
         for (i, request) in scene.iter().enumerate() {
             let answer = self.served.serve(request);
             let of_rust = self.real.serve(request, &answer, &self.served);
@@ -27,15 +43,59 @@ impl Judge {
                     report(scene.iter().copied(), i, answer, given);
                 }
             }
+            if request.kind == CHECK {
+                let fails = self.served.table().fails();
+                self.figures.fails(fails.as_deref().unwrap_or_default());
+                played.checks.push(fails);
+            }
             self.figures.count(request, &answer, of_rust.is_some());
-            batch.push((*request, answer));
+            played.answers.push(answer);
+            played.of_rust.push(of_rust.unwrap_or(answer));
         }
-        self.program.send(batch);
+        played
+    }
+
+    /// The program is handed the requests, with what it is to answer.
+    fn send(&mut self, scene: Scene, answers: Vec<Answer>, pair: Option<Pair>) {
+        self.program.send(Batch { wanted: scene.into_iter().zip(answers).collect(), pair });
     }
 
     fn scenes(&mut self, name: &'static str, scenes: impl IntoIterator<Item = Scene>) {
         let before = self.figures.requests;
-        scenes.into_iter().for_each(|scene| self.scene(&scene));
+        for scene in scenes {
+            let played = self.play(&scene);
+            self.send(scene, played.answers, None);
+        }
+        self.figures.scenes(name, before);
+    }
+
+    /// Scenes that say themselves what their checks must give.
+    fn checked(&mut self, name: &'static str, scenes: impl IntoIterator<Item = Checked>) {
+        let before = self.figures.requests;
+        for Checked { scene, expected } in scenes {
+            let played = self.play(&scene);
+            assert_eq!(played.checks.len(), expected.len());
+            for (expect, fails) in expected.iter().zip(&played.checks) {
+                if !expect.meets(fails) {
+                    self.unexpected += 1;
+                    println!("\na scene says {expect:?} of a table, and the model that these rules fail: {fails:?}");
+                }
+            }
+            self.send(scene, played.answers, None);
+        }
+        self.figures.scenes(name, before);
+    }
+
+    /// Pairs of runs: the claim on them is held to the answers of all three.
+    fn pairs(&mut self, name: &'static str, pairs: impl IntoIterator<Item = Pair>) {
+        let before = self.figures.requests;
+        for pair in pairs {
+            let scene = pair.scene();
+            let played = self.play(&scene);
+            self.orders[0].hold(&pair, &played.answers);
+            self.orders[1].hold(&pair, &played.of_rust);
+            self.send(scene, played.answers, Some(pair));
+        }
         self.figures.scenes(name, before);
     }
 }
@@ -50,6 +110,8 @@ pub fn run(long: bool, seed: u64, command: &[String]) -> bool {
         real: Real::default(),
         program: Program::start(command),
         figures: Figures::default(),
+        orders: Default::default(),
+        unexpected: 0,
         differences: 0,
     };
     let mut random = Random(seed);
@@ -58,6 +120,8 @@ pub fn run(long: bool, seed: u64, command: &[String]) -> bool {
     for _ in 0..times {
         made(&mut judge, &mut random);
         off(&mut judge, &mut random);
+        sound(&mut judge, &mut random);
+        any_order(&mut judge, &mut random);
     }
     finish(judge)
 }
@@ -71,6 +135,7 @@ fn fixed(judge: &mut Judge, long: bool) {
     judge.scenes("short sequences, wrapping", scenes::short(3 + more, &[], &[u64::MAX, u64::MAX - 8, 7, 8, 15]));
     judge.scenes("short sequences, nearly full", scenes::short(3 + more, &[2, 3, 4, 5, 6, 7], &[1, 9, 17, 8]));
     judge.scenes("short sequences, full", scenes::short(3 + more, &[1, 9, 2, 10, 3, 11, 4, 12], &[1, 9, 17, 12]));
+    judge.pairs("any order", [orders::one_full()]);
     for size in [8, 16, 64, 256] {
         let links = [1, 2, size - 2, size - 1, size];
         judge.scenes("chains", links.iter().flat_map(|l| [2 * size, size + 1 + l % size].map(|key| scenes::chain(size, *l, key))));
@@ -104,14 +169,45 @@ fn off(judge: &mut Judge, random: &mut Random) {
     }
 }
 
+/// Sound tables, made by calls, and the same spoilt.
+fn sound(judge: &mut Judge, random: &mut Random) {
+    for hasher in HASHERS {
+        for size in SMALL {
+            let times = (256 / size).max(1);
+            judge.checked("sound", (0..times).flat_map(|_| checks::made(random, size, hasher)).collect::<Vec<_>>());
+            judge.checked("sound, then spoilt", (0..8 * times).map(|_| checks::spoilt(random, size, hasher, 3)).collect::<Vec<_>>());
+        }
+    }
+    for size in LARGE {
+        let hasher = random.pick(&HASHERS);
+        judge.checked("sound, large", checks::made(random, size, hasher));
+        judge.checked("sound, then spoilt, large", [checks::spoilt(random, size, hasher, 1)]);
+    }
+}
+
+/// Lists and reorderings of them.
+fn any_order(judge: &mut Judge, random: &mut Random) {
+    for hasher in HASHERS {
+        for size in SMALL {
+            judge.pairs("any order", (0..(8192 / size).max(40)).map(|_| orders::pair(random, size, hasher)).collect::<Vec<_>>());
+        }
+    }
+}
+
 fn finish(judge: Judge) -> bool {
-    let Judge { program, figures, differences, .. } = judge;
+    let Judge { program, figures, differences, real, orders, unexpected, .. } = judge;
     let given = program.end();
     println!();
     figures.print();
+    println!("tables of the Rust's held to the eight rules: {}, unsound: {}", real.checked, real.unsound);
+    println!("tables of which the model does not say what their scene says: {unexpected}");
+    given.orders.print();
+    let failures = [&given.orders, &orders[0], &orders[1]].map(|held| held.failures);
+    println!("  the claim fails on the program's answers: {}, the model's: {}, the Rust's: {}", failures[0], failures[1], failures[2]);
+    println!();
     println!("{:>14} {:>9}", "requests", figures.requests);
     println!("answered by the Rust too, on its domain: {}", figures.of_rust);
     println!("differences of the Rust from the model: {differences}");
-    println!("differences of the program from the model: {given}");
-    differences + given == 0
+    println!("differences of the program from the model: {}", given.differences);
+    differences + given.differences + real.unsound + unexpected + failures.iter().sum::<u64>() == 0
 }

@@ -6,11 +6,11 @@ use crate::served::hasher_number;
 
 pub type Scene = Vec<Request>;
 
-fn ask(kind: u64, args: &[u64]) -> Request {
+pub fn ask(kind: u64, args: &[u64]) -> Request {
     Request::new(kind, args)
 }
 
-fn table(size: u64, hasher: Hasher, digests: bool) -> Scene {
+pub fn table(size: u64, hasher: Hasher, digests: bool) -> Scene {
     vec![ask(DIGESTS, &[digests as u64]), ask(TABLE, &[size, hasher_number(hasher)])]
 }
 
@@ -83,7 +83,7 @@ pub fn life(random: &mut Random, size: u64, hasher: Hasher, steps: u64, digests:
 }
 
 /// A key of any kind: small, large, or with a pattern.
-fn random_key(random: &mut Random) -> u64 {
+pub fn random_key(random: &mut Random) -> u64 {
     match random.below(4) {
         0 => 1 + random.below(100_000),
         1 => u64::MAX - random.below(100_000),
@@ -174,6 +174,7 @@ pub fn spoilt(random: &mut Random, size: u64, hasher: Hasher, steps: u64) -> Sce
     }
     for _ in 0..steps {
         scene.push(match random.below(4) {
+            0 if random.one_in(3) => ask(CHECK, &[]),
             0 => spoil(random, size, hasher, &keys),
             1 if random.one_in(4) => bucket(random, size, &keys),
             _ => everyday(random, hasher, &keys),
@@ -193,6 +194,7 @@ pub fn forged(random: &mut Random, size: u64, hasher: Hasher, steps: u64) -> Sce
     scene.extend((0..2 * size).map(|i| ask(DELTA, &[i, forged_delta(random, size)])));
     scene.push(ask(RECORD, &[hasher_number(hasher), random.below(size + 2)]));
     scene.push(ask(DIGESTS, &[1]));
+    scene.push(ask(CHECK, &[]));
     scene.extend((0..steps).map(|_| everyday(random, hasher, &keys)));
     scene
 }
@@ -207,7 +209,7 @@ pub fn chain(size: u64, links: u64, key: u64) -> Scene {
     }
     for live in [0, size] {
         scene.push(ask(RECORD, &[1, live]));
-        scene.extend([FIND, REMOVE, CONTAINS_KEY, GET_KEY_VALUE].map(|kind| ask(kind, &[key])));
+        scene.extend([CHECK, FIND, REMOVE, CONTAINS_KEY, GET_KEY_VALUE].map(|kind| ask(kind, &[key])));
         scene.push(ask(INSERT, &[key, 7]));
     }
     scene
@@ -236,7 +238,7 @@ pub fn lengths(words: u64, deltas: u64, live: u64, hasher: Hasher) -> Scene {
     scene.push(ask(LEND, &[words, deltas]));
     scene.push(ask(RECORD, &[hasher_number(hasher), live]));
     scene.push(ask(DIGESTS, &[(words < 1000) as u64]));
-    for kind in [FIND, REMOVE, INSERT, CONTAINS_KEY, GET_KEY_VALUE, LEN, IS_EMPTY, CAPACITY, HASH, TAKE, CELL, COPY, CHANGE, CLEAR] {
+    for kind in [FIND, REMOVE, INSERT, CONTAINS_KEY, GET_KEY_VALUE, LEN, IS_EMPTY, CAPACITY, HASH, CHECK, TAKE, CELL, COPY, CHANGE, CLEAR] {
         let zero = zero_hash(hasher);
         scene.extend([[21, 6], [zero, 6], [21, NULL], [zero, NULL], [0, 0], [1, 3]].map(|args| ask(kind, &args)));
     }

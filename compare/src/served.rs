@@ -1,6 +1,7 @@
 //! The model behind requests: it keeps between requests what the program `answers` keeps.
 use crate::form::*;
 use crate::model::{self, Bucket, Cell, Hasher, Record, Said, Table};
+use crate::sound::Check;
 
 /// Room in the arrays: for 131,072 cells, and 65,536 spare ones.
 const WORDS: usize = 393_216;
@@ -56,6 +57,14 @@ fn numbered(said: Said) -> (u64, u64) {
         Said::Null => (3, 0),
         Said::Full(position) => (4, position),
         Said::Broken => (5, 0),
+    }
+}
+
+pub fn checked(check: Check) -> &'static str {
+    match check {
+        Check::Sound => "Sound",
+        Check::Shape => "refused 1 Shape",
+        Check::Unsound => "refused 9 Unsound",
     }
 }
 
@@ -183,6 +192,7 @@ impl Served {
             IS_EMPTY => plain(if record.live == 0 { "yes" } else { "no" }),
             CAPACITY => table.size().map_or(plain("refused 1 Shape"), |size| carrying("Number", size as u64)),
             HASH => carrying("Number", model::hash_of(record.hasher, a)),
+            CHECK => plain(checked(table.check())),
             CONTAINS_KEY => match table.find(a).said {
                 Said::Found(_) => plain("yes"),
                 Said::Absent => plain("no"),

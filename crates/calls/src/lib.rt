@@ -1,4 +1,5 @@
 // The calls on a table of fixed size as requests: kinds 16 to 31.
+use checker::CheckSaid;
 use forms::Request;
 use forms::kinds;
 use forms::said;
@@ -102,6 +103,14 @@ fn sized(answer: CapacitySaid) -> Told {
     }
 }
 
+fn checked(answer: CheckSaid) -> Told {
+    match answer {
+        CheckSaid::Sound => told::plain(said::SOUND),
+        CheckSaid::Shape => told::plain(said::SHAPE),
+        CheckSaid::Unsound => told::plain(said::UNSOUND),
+    }
+}
+
 // A refused clear leaves the record as it was.
 fn cleared(answer: ClearSaid, table: Table) -> Called {
     match answer {
@@ -167,6 +176,7 @@ fn asked(words: &[u64], deltas: &[u8], table: Table, kind: u64, key: u64) -> Tol
         kinds::FIND => find(words, deltas, table, key),
         kinds::CAPACITY => sized(hashmap::capacity(words, deltas)),
         kinds::CONTAINS_KEY => contained(hashmap::contains_key(words, deltas, table, key)),
+        kinds::CHECK => checked(checker::check(words, deltas, table)),
         kinds::GET_KEY_VALUE => paired(hashmap::get_key_value(words, deltas, table, key)),
         _ => of_record(table, kind, key),
     }

@@ -4,7 +4,7 @@ use mathlib.Core.Path.{_≡_, refl, sym, ap, _∙_, subst}
 use Prim.Native.Nat.{ℕ, zero, suc, _+_, _*_, _<_}
 use native.Mathlib.Nat.{mul-suc, le-of-suc-le-suc}
 use native.Mathlib.Omega.{arith}
-use lib.ListN.{length, set, drop, replicate}
+use lib.ListN.{length, getD, set, drop, replicate}
 use lib.Seq.{drop-length}
 use Rattle.cells.specs.Layout.{null, freshWords, filled}
 
@@ -52,3 +52,25 @@ fresh-more n w v v′ l e e′ =
 -- nothing is left
 pub fresh-all : (n : ℕ) (w v : List ℕ) → length w ≡ 3 * n → v ≡ freshWords n ++ drop (3 * n) w → v ≡ freshWords n
 fresh-all n w v l e = e ∙ ap (λ (k : ℕ). freshWords n ++ drop k w) (sym l) ∙ ap (λ (r : List ℕ). freshWords n ++ r) (drop-length w) ∙ append-nil (freshWords n)
+
+-- ---- n empty cells
+
+pub fresh-length : (n : ℕ) → length (freshWords n) ≡ 3 * n
+unfolding freshWords
+fresh-length zero = refl
+fresh-length (suc n) = omega (arith, fresh-length n, mul-suc 3 n)
+
+-- cell i of n empty ones
+pub fresh-at : (n i : ℕ) → i < n → (getD (freshWords n) (3 * i) 0 ≡ 0) × (getD (freshWords n) (3 * i + 1) 0 ≡ 0) × (getD (freshWords n) (3 * i + 2) 0 ≡ null)
+unfolding freshWords
+fresh-at zero i u = absurd (omega arith)
+fresh-at (suc n) zero u = (refl, refl, refl)
+fresh-at (suc n) (suc i) u =
+    let f = fresh-at n i (omega arith) in
+    let a : 3 * suc i ≡ suc (suc (suc (3 * i))) = omega arith in
+    let b : 3 * suc i + 1 ≡ suc (suc (suc (3 * i + 1))) = omega arith in
+    let c : 3 * suc i + 2 ≡ suc (suc (suc (3 * i + 2))) = omega arith in (
+      ap (λ (m : ℕ). getD (0 ∷ 0 ∷ null ∷ freshWords n) m 0) a ∙ f .0,
+      ap (λ (m : ℕ). getD (0 ∷ 0 ∷ null ∷ freshWords n) m 0) b ∙ f .1,
+      ap (λ (m : ℕ). getD (0 ∷ 0 ∷ null ∷ freshWords n) m 0) c ∙ f .2,
+    )

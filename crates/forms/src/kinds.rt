@@ -47,6 +47,8 @@ pub const GET_KEY_VALUE: u64 = 25;
 
 pub const HASH: u64 = 26;
 
+pub const CHECK: u64 = 27;
+
 pub const TAKE: u64 = 32;
 
 pub const COPY: u64 = 33;
@@ -69,7 +71,7 @@ fn is_word(word: &[u8], kind: usize) -> bool {
                   .             .             .             .             \
                   table         clear         insert        find          \
                   remove        len           is_empty      capacity      \
-                  contains_key  get_key_value hash          .             \
+                  contains_key  get_key_value hash          check         \
                   .             .             .             .             \
                   take          copy          cell          change        ";
     same(entry(words, 14 * (kind % 1024), 14), word)

@@ -13,6 +13,8 @@ pub const NULL: u64 = 3;
 pub const FULL: u64 = 4;
 
 pub const BROKEN: u64 = 5;
+
+pub const UNSOUND: u64 = 9;
 // A request that is no call was carried out.
 pub const DONE: u64 = 16;
 
@@ -44,6 +46,8 @@ pub const PUT: u64 = 29;
 
 pub const CELL: u64 = 30;
 
+pub const SOUND: u64 = 31;
+
 // The name of a number, 20 bytes to each.
 pub fn name(line: &mut [u8; 512], used: usize, said: u64) -> usize {
     let names = b"no such request     refused 1 Shape     \
@@ -61,7 +65,7 @@ pub fn name(line: &mut [u8; 512], used: usize, said: u64) -> usize {
                   Number              yes                 \
                   no                  Pair                \
                   Taken               Put                 \
-                  Cell                ";
+                  Cell                Sound               ";
     text(line, used, entry(names, 20 * (said as usize % 1024), 20))
 }
 

@@ -8,3 +8,4 @@ pub mod Sound
 pub mod Growth
 pub mod Moves
 pub mod Growing
+pub mod Cursor

@@ -41,7 +41,7 @@ distance S z j p q = go (decLe z j)
 
 module _ (p : Params) (cs : Cells) (value : ℕ → ℕ) (b : Built p cs value) (z : Wraps (p .S)) (h k : ℕ) (some : h ≢ 0) where
   -- the tail of a walk past a taken home is taken
-  tail-taken : (q : ℕ) → Taken cs (h % p .S) → walk (p .S) cs h k .stop ≡ tail q → Taken cs (q % p .S)
+  pub tail-taken : (q : ℕ) → Taken cs (h % p .S) → walk (p .S) cs h k .stop ≡ tail q → Taken cs (q % p .S)
   tail-taken q t e = go (looked-home p cs value b z h k some)
     where
       last : (l : List ℕ) → ((i : ℕ) → Among i l → OfHome (p .S) cs (h % p .S) i) → Taken cs (lastOf (h % p .S) l)

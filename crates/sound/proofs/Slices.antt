@@ -1,10 +1,9 @@
 -- The laws of sound tables on the two slices and the record: a fresh table is sound, and what a call leaves, lent again, is the table
 -- after it. Assumes nothing.
 use mathlib.Core.Bool.{Bool, true, false, cond, _&&_}
-use mathlib.Core.List.{List, _∷_}
+use mathlib.Core.List.{List}
 use mathlib.Core.Path.{_≡_, refl, sym, ap, subst, _∙_}
 use Prim.Native.Nat.{ℕ, zero, suc, _+_, _*_, _/_, _<_}
-use native.Mathlib.Nat.{mul-suc}
 use native.Mathlib.Omega.{arith}
 use borrow.Author.Tests.{eq-eqb}
 use lib.Dec.{leb}
@@ -17,6 +16,7 @@ use Rattle.rules.specs.Calls.{insert, remove}
 use Rattle.rules.specs.Sound.{Fresh}
 use Rattle.cells.specs.declared.Table.{Table}
 use Rattle.cells.specs.Layout.{null, firstAt, secondAt, valueIn, view, sizeIn, isShaped, paramsOf, countsOf, lent, freshWords, freshDeltas, wordsAfter, deltasAfter, doneBy, leftBy}
+use Rattle.cells.proofs.Clearing.{fresh-length, fresh-at}
 use Rattle.cells.proofs.Shapes.{passed, deltas-hold}
 use Rattle.laws.proofs.Lent.{Viewed, lent-insert-viewed, lent-remove-viewed}
 use Rattle.sound.specs.State.{after, SoundTable, Sized}
@@ -33,25 +33,6 @@ lent-sized ws ds t e = go (isShaped ws ds && leb (t .live) (sizeIn ds)) refl e
     go false q e = absurd (omega arith)
 
 -- ---- a fresh table
-
-fresh-length : (n : ℕ) → length (freshWords n) ≡ 3 * n
-unfolding freshWords
-fresh-length zero = refl
-fresh-length (suc n) = omega (arith, fresh-length n, mul-suc 3 n)
-
-fresh-at : (n i : ℕ) → i < n → (getD (freshWords n) (3 * i) 0 ≡ 0) × (getD (freshWords n) (3 * i + 1) 0 ≡ 0) × (getD (freshWords n) (3 * i + 2) 0 ≡ null)
-unfolding freshWords
-fresh-at zero i u = absurd (omega arith)
-fresh-at (suc n) zero u = (refl, refl, refl)
-fresh-at (suc n) (suc i) u =
-    let f = fresh-at n i (omega arith) in
-    let a : 3 * suc i ≡ suc (suc (suc (3 * i))) = omega arith in
-    let b : 3 * suc i + 1 ≡ suc (suc (suc (3 * i + 1))) = omega arith in
-    let c : 3 * suc i + 2 ≡ suc (suc (suc (3 * i + 2))) = omega arith in (
-      ap (λ (m : ℕ). getD (0 ∷ 0 ∷ null ∷ freshWords n) m 0) a ∙ f .0,
-      ap (λ (m : ℕ). getD (0 ∷ 0 ∷ null ∷ freshWords n) m 0) b ∙ f .1,
-      ap (λ (m : ℕ). getD (0 ∷ 0 ∷ null ∷ freshWords n) m 0) c ∙ f .2,
-    )
 
 module _ (S : ℕ) (size : isSize S ≡ true) (hasher : Hasher) where
   abbrev fresh : Table

@@ -1,0 +1,52 @@
+//! The programs of this project: `answers`, asked by lines, and `vectors`, which writes what the helpers give.
+use std::io::Write;
+use std::process::{Command, Stdio};
+
+/// The words that run a program, up to the folder that it is in.
+pub struct Programs(pub Vec<String>);
+
+impl Programs {
+    fn run(&self, name: &str, input: &str) -> Vec<String> {
+        let (folder, start) = self.0.split_last().unwrap();
+        let path = format!("{folder}/{name}");
+        let mut words = start.iter().chain([&path]);
+        let mut child = Command::new(words.next().unwrap())
+            .args(words)
+            .stdin(Stdio::piped())
+            .stdout(Stdio::piped())
+            .spawn()
+            .expect("the program starts");
+        child.stdin.take().unwrap().write_all(input.as_bytes()).unwrap();
+        let output = child.wait_with_output().unwrap();
+        assert!(output.status.success(), "the program {name} ended badly");
+        String::from_utf8(output.stdout).unwrap().lines().map(str::to_string).collect()
+    }
+
+    /// What the program `answers` answers to each line. Of `inserts` and `removes` it is the last one.
+    pub fn answers(&self, asks: &[&str]) -> Vec<String> {
+        let lines: Vec<Vec<String>> = asks.iter().map(|ask| lines_of(ask)).collect();
+        let input: String = lines.iter().flatten().map(|line| format!("{line}\n")).collect();
+        let mut said = self.run("answers", &input).into_iter();
+        lines.iter().map(|lines| answer_of(&said.by_ref().take(lines.len()).last().unwrap())).collect()
+    }
+
+    /// The lines of the program `vectors` that start so.
+    pub fn vectors(&self, starts: &[&str]) -> Vec<String> {
+        let all = self.run("vectors", "");
+        starts.iter().map(|start| all.iter().find(|line| line.starts_with(start)).expect(start).clone()).collect()
+    }
+}
+
+/// A line, or the many that `inserts A B` or `removes A B` stands for.
+fn lines_of(ask: &str) -> Vec<String> {
+    let range = |from: &str, to: &str| from.parse::<u64>().unwrap()..=to.parse().unwrap();
+    match ask.split(' ').collect::<Vec<_>>()[..] {
+        ["inserts", from, to] => range(from, to).map(|key| format!("insert {key} {key}")).collect(),
+        ["removes", from, to] => range(from, to).map(|key| format!("remove {key}")).collect(),
+        _ => vec![ask.to_string()],
+    }
+}
+
+fn answer_of(line: &str) -> String {
+    line.split(": ").nth(1).unwrap().to_string()
+}

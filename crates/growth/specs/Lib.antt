@@ -1,0 +1,3 @@
+pub mod Rounds
+pub mod Ends
+pub mod Growth

@@ -1,0 +1,12 @@
+pub mod Doubling
+pub mod Tries
+pub mod Sizes
+pub mod Rounds
+pub mod Checks
+pub mod Never
+pub mod Moves
+pub mod Left
+pub mod Sound
+pub mod Lookups
+pub mod Worked
+pub mod Eight

@@ -1,0 +1,12 @@
+pub mod Steps
+pub mod Carrying
+pub mod Moved
+pub mod Unbroken
+pub mod Sound
+pub mod Finding
+pub mod Crowded
+pub mod Room
+pub mod Stops
+pub mod Plain
+pub mod Fresh
+pub mod Slices
