@@ -6,3 +6,4 @@ pub mod Going
 pub mod Sides
 pub mod Loop
 pub mod Checked
+pub mod OneOutcome

@@ -9,3 +9,4 @@ pub mod Growth
 pub mod Moves
 pub mod Growing
 pub mod Cursor
+pub mod Entries

@@ -1,0 +1,9 @@
+pub mod Ways
+pub mod Stale
+pub mod Making
+pub mod AtOnce
+pub mod OnSound
+pub mod ByKey
+pub mod Apart
+pub mod Handed
+pub mod Answers

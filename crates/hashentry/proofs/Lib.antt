@@ -1,0 +1,4 @@
+pub mod Using
+pub mod Placing
+pub mod Handing
+pub mod OneOutcome
