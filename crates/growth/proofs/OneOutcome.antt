@@ -39,11 +39,11 @@ grow-back says.Null = refl
 grow-back says.Broken = refl
 grow-back says.NoRoom = refl
 
-abbrev unhalf : rule.Half → Half
+abbrev pub unhalf : rule.Half → Half
 unhalf rule.lower = Lower
 unhalf rule.upper = Upper
 
-half-back : (h : Half) → unhalf (halfOf h) ≡ h
+pub half-back : (h : Half) → unhalf (halfOf h) ≡ h
 half-back Lower = refl
 half-back Upper = refl
 

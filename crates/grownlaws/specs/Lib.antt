@@ -1,0 +1,2 @@
+-- How the laws of growth are stated on the slices.
+pub mod Meets
