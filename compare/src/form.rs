@@ -34,6 +34,30 @@ pub const TAKE: u64 = 32;
 pub const COPY: u64 = 33;
 pub const CELL: u64 = 34;
 pub const CHANGE: u64 = 35;
+pub const CURSOR: u64 = 64;
+pub const STEP: u64 = 65;
+pub const SET: u64 = 66;
+pub const ENTRY: u64 = 67;
+pub const FORGE_OCCUPIED: u64 = 68;
+pub const FORGE_VACANT: u64 = 69;
+pub const ENTRY_KEY: u64 = 70;
+pub const ENTRY_GET: u64 = 71;
+pub const ENTRY_REPLACE: u64 = 72;
+pub const ENTRY_REMOVE: u64 = 73;
+pub const REMOVE_ENTRY: u64 = 74;
+pub const ENTRY_INSERT: u64 = 75;
+pub const OR_INSERT: u64 = 76;
+pub const INSERT_ENTRY: u64 = 77;
+pub const MOVE: u64 = 48;
+pub const MOVE_BACK: u64 = 49;
+pub const HALVES: u64 = 50;
+pub const CLEAR_HALVES: u64 = 51;
+pub const IN_USE: u64 = 52;
+pub const GROW: u64 = 53;
+pub const GROW_FIND: u64 = 54;
+pub const GROW_REMOVE: u64 = 55;
+pub const PARTS: u64 = 56;
+pub const GROW_CHECK: u64 = 57;
 
 /// Number, word, and what is carried: n a number, h a hasher, s a switch.
 pub const KINDS: &[(u64, &str, &str)] = &[
@@ -64,6 +88,30 @@ pub const KINDS: &[(u64, &str, &str)] = &[
     (COPY, "copy", "nn"),
     (CELL, "cell", "nn"),
     (CHANGE, "change", "nnnn"),
+    (CURSOR, "cursor", "n"),
+    (STEP, "step", ""),
+    (SET, "set", "nn"),
+    (ENTRY, "entry", "n"),
+    (FORGE_OCCUPIED, "forge_occupied", "nnn"),
+    (FORGE_VACANT, "forge_vacant", "nn"),
+    (ENTRY_KEY, "entry_key", ""),
+    (ENTRY_GET, "entry_get", ""),
+    (ENTRY_REPLACE, "entry_replace", "n"),
+    (ENTRY_REMOVE, "entry_remove", ""),
+    (REMOVE_ENTRY, "remove_entry", ""),
+    (ENTRY_INSERT, "entry_insert", "n"),
+    (OR_INSERT, "or_insert", "n"),
+    (INSERT_ENTRY, "insert_entry", "n"),
+    (MOVE, "move", ""),
+    (MOVE_BACK, "move_back", ""),
+    (HALVES, "halves", "nnh"),
+    (CLEAR_HALVES, "clear_halves", "nh"),
+    (IN_USE, "in_use", "nn"),
+    (GROW, "grow", "nn"),
+    (GROW_FIND, "grow_find", "n"),
+    (GROW_REMOVE, "grow_remove", "n"),
+    (PARTS, "parts", ""),
+    (GROW_CHECK, "grow_check", ""),
 ];
 
 /// What was said, by number: 1 to 9 are document 01's refusals, 0 is a request that no one knows.
@@ -74,6 +122,7 @@ pub const SAID: &[(u64, &str)] = &[
     (3, "refused 3 Null"),
     (4, "refused 4 Full"),
     (5, "refused 5 Broken"),
+    (6, "refused 6 NoRoom"),
     (9, "refused 9 Unsound"),
     (16, "done"),
     (17, "New"),
@@ -91,6 +140,13 @@ pub const SAID: &[(u64, &str)] = &[
     (29, "Put"),
     (30, "Cell"),
     (31, "Sound"),
+    (7, "refused 7 Stale"),
+    (64, "Next"),
+    (65, "End"),
+    (66, "Occupied"),
+    (67, "Vacant"),
+    (40, "Moved"),
+    (41, "Parts"),
 ];
 
 pub fn said(number: u64) -> &'static str {
@@ -201,14 +257,27 @@ impl Answer {
         if kind == TAKE {
             text += &format!(", bucket {:016x}", self.values[0]);
         }
-        if [INSERT, FIND, REMOVE].contains(&kind) {
+        if [INSERT, FIND, REMOVE, GROW, GROW_FIND, GROW_REMOVE].contains(&kind) {
             text += &format!(", looked {}", self.looked);
         }
+        text += &self.place(kind);
         text += &format!(", live {}", self.live);
         if self.digest != 0 {
             text += &format!(", table {:016x}", self.digest);
         }
         text
+    }
+
+    /// What the text says of a growing table: the moves of an insert, the parts by their digests, the size and the half.
+    fn place(&self, kind: u64) -> String {
+        let [first, second, half] = self.values;
+        let own = match kind {
+            GROW => format!(", moves {second}"),
+            PARTS => format!(", words {first:016x}, deltas {second:016x}"),
+            HALVES..=GROW_CHECK => String::new(),
+            _ => return String::new(),
+        };
+        format!("{own}, size {} {}", self.capacity, if half == 0 { "lower" } else { "upper" })
     }
 
     /// How many values the text of this answer has.
@@ -217,6 +286,9 @@ impl Answer {
             "refused 4 Full" | "Replaced" | "Found" | "Removed" | "Number" => 1,
             "Pair" => 2,
             "Cell" => 3,
+            "End" | "Vacant" => 1,
+            "Occupied" => 2,
+            "Next" => 3,
             _ => 0,
         }
     }

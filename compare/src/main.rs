@@ -1,8 +1,17 @@
 //! Runs against the Rust. compare/README.md says what each word does.
+#![feature(allocator_api)]
 mod aims;
 mod checks;
+mod entered;
+mod entries;
 mod form;
+mod hand;
+mod grown;
+mod growing;
+mod growths;
+mod halves;
 mod keys;
+mod memory;
 mod model;
 mod orders;
 mod program;
@@ -13,6 +22,8 @@ mod run;
 mod scenes;
 mod served;
 mod sound;
+mod walks;
+mod tally;
 
 fn main() {
     let words: Vec<String> = std::env::args().skip(1).collect();

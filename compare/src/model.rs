@@ -34,6 +34,7 @@ pub enum Said {
     Null,
     Full(u64),
     Broken,
+    Stale,
 }
 
 /// What a call says and how many cells it looked at.
@@ -106,7 +107,7 @@ impl Table<'_> {
         Cell { hash: self.words[3 * i], key: self.words[3 * i + 1], value: self.words[3 * i + 2] }
     }
 
-    fn set_cell(&mut self, i: usize, cell: Cell) {
+    pub fn set_cell(&mut self, i: usize, cell: Cell) {
         self.words[3 * i..3 * i + 3].copy_from_slice(&[cell.hash, cell.key, cell.value]);
     }
 
@@ -128,23 +129,23 @@ impl Table<'_> {
 }
 
 /// The cell of a position: only here is a position reduced.
-fn cell_of(position: u64, size: usize) -> usize {
+pub fn cell_of(position: u64, size: usize) -> usize {
     (position % size as u64) as usize
 }
 
 // ---- the walk
 
 /// Where a walk stopped: at the key, at the end of the chain, or nowhere within S-1 links.
-enum Stop {
+pub enum Stop {
     Met(u64),
     Tail(u64),
     Broken,
 }
 
 /// A walk: the positions looked at, in order, and where it stopped.
-struct Walk {
+pub struct Walk {
     seen: Vec<u64>,
-    stop: Stop,
+    pub stop: Stop,
 }
 
 impl Table<'_> {
@@ -154,7 +155,7 @@ impl Table<'_> {
     }
 
     /// Rules 2 and 3: the home, then the home's first delta and second deltas until one is 0.
-    fn walk(&self, size: usize, hash: u64, key: u64) -> Walk {
+    pub fn walk(&self, size: usize, hash: u64, key: u64) -> Walk {
         let mut seen = vec![hash];
         if self.holds(hash, size, hash, key) {
             return Walk { seen, stop: Stop::Met(hash) };
@@ -218,7 +219,7 @@ impl Table<'_> {
     }
 
     /// The value becomes null and nothing else changes; live takes 1, and may not fall below 0.
-    fn remove_at(&mut self, i: usize) -> Said {
+    pub fn remove_at(&mut self, i: usize) -> Said {
         let cell = self.cell(i);
         if cell.value == NULL {
             return Said::Absent;
@@ -244,7 +245,7 @@ impl Table<'_> {
     }
 
     /// An insert past its checks, by the hash that the cell holds.
-    fn insert_stored(&mut self, size: usize, new: Cell) -> Told {
+    pub fn insert_stored(&mut self, size: usize, new: Cell) -> Told {
         let home = cell_of(new.hash, size);
         if !self.cell(home).taken() {
             return Told { said: self.fill(size, home, new, |_| ()), looked: 1 };

@@ -92,7 +92,7 @@ impl Given {
 /// Prints the requests since the last fresh table, as lines that ./run takes, and both answers.
 pub fn report(requests: impl Iterator<Item = Request>, i: usize, wanted: Answer, given: Answer) {
     let upto: Vec<Request> = requests.take(i + 1).collect();
-    let start = upto.iter().rposition(|r| r.kind == TABLE).unwrap_or(0);
+    let start = upto.iter().rposition(|r| [TABLE, HALVES].contains(&r.kind)).unwrap_or(0);
     for request in &upto[start..] {
         println!("    {}", request.text());
     }

@@ -1,13 +1,16 @@
 //! The Rust behind requests: what it answers, in document 01's words, where a request lies on its domain.
+use crate::entered::{Entered, Held};
 use crate::form::*;
+use crate::growing::Growing;
 use crate::model::{Hasher, Record, Table, NULL};
 use crate::served::{checked, hasher_number, hasher_of, Served};
 use crate::sound::Check;
 use leapfrog::hashmap::peek::{self, Fixed, Map};
 use leapfrog::{FnvHasher, MurmurHasher, SimpleHasher};
+use std::alloc::Allocator;
 
 /// The Rust's map, whatever its hasher.
-pub trait Rust {
+pub trait Rust: Entered {
     fn insert(&mut self, key: u64, value: u64) -> Option<u64>;
     fn insert_fixed(&mut self, key: u64, value: u64) -> Fixed;
     fn get(&self, key: u64) -> Option<u64>;
@@ -21,9 +24,10 @@ pub trait Rust {
     fn cell(&self, i: usize) -> [u64; 3];
     fn deltas(&self, b: usize) -> [u8; 8];
     fn claimed(&self) -> usize;
+    fn moved(&self, cells: usize) -> Option<Box<dyn Rust>>;
 }
 
-impl<H: std::hash::Hasher + Default> Rust for Map<H> {
+impl<H: std::hash::Hasher + Default + 'static, A: Allocator + Clone + 'static> Rust for Map<H, A> {
     fn insert(&mut self, key: u64, value: u64) -> Option<u64> {
         Map::insert(self, key, value)
     }
@@ -63,6 +67,9 @@ impl<H: std::hash::Hasher + Default> Rust for Map<H> {
     fn claimed(&self) -> usize {
         peek::claimed(self)
     }
+    fn moved(&self, cells: usize) -> Option<Box<dyn Rust>> {
+        peek::moved(self, cells).map(|map| Box::new(map) as Box<dyn Rust>)
+    }
 }
 
 /// A fresh table of the Rust's.
@@ -84,12 +91,21 @@ pub struct Real {
     read: u64,
     pub checked: u64,
     pub unsound: u64,
+    pub held: Held,
+    pub growing: Growing,
 }
 
 impl Real {
     /// The Rust's answer to a request that the model answered so, or none where the request is off its domain.
     pub fn serve(&mut self, request: &Request, model: &Answer, served: &Served) -> Option<Answer> {
+        if (MOVE_BACK..=GROW_CHECK).contains(&request.kind) {
+            self.map = None;
+        }
+        if let Some(answer) = self.growing.serve(request, model, served) {
+            return Some(answer);
+        }
         match request.kind {
+            MOVE => return self.moved(model, served),
             TABLE | CLEAR if model.number == number("Cleared") => {
                 self.map = Some(fresh(model.capacity as usize, hasher_of(model.hasher)?));
                 self.revived = 0;
@@ -97,9 +113,13 @@ impl Real {
             TABLE | LEND | RECORD | WORD | DELTA | COPY | CHANGE => self.map = None,
             _ => (),
         }
+        self.held.follow(request, model);
         let map = self.map.as_mut()?;
         let mut answer = *model;
-        let asked = ask(map.as_mut(), &mut self.revived, request, model.number);
+        let asked = match request.kind {
+            CURSOR.. => self.held.ask(map.as_mut(), &mut self.revived, request, model),
+            _ => ask(map.as_mut(), &mut self.revived, request, model.number),
+        };
         if let Some((number, values)) = asked {
             (answer.number, answer.values) = (number, values);
         }
@@ -121,6 +141,29 @@ impl Real {
             }
         }
         asked.map(|_| answer).or_else(|| (answer != *model).then_some(answer))
+    }
+}
+
+impl Real {
+    /// The Rust's own move of a copy of the map. Full has the model's position: the Rust gives none.
+    fn moved(&self, model: &Answer, served: &Served) -> Option<Answer> {
+        let map = self.map.as_ref()?;
+        let cells = served.spare.0 / 3;
+        if model.number == number("refused 1 Shape") {
+            return None;
+        }
+        let mut answer = *model;
+        let record = Record { hasher: hasher_of(model.hasher)?, live: (map.len() as u64).wrapping_add(self.revived) };
+        let moved = map.moved(cells);
+        answer.number = number(if moved.is_some() { "Moved" } else { "refused 4 Full" });
+        if let (Some(to), true) = (moved, model.digest != 0) {
+            let to = Laid::of(to.as_ref(), record);
+            let mut digest = Digest(Laid::of(map.as_ref(), record).table_digest());
+            digest.words(&to.words);
+            digest.bytes(&to.deltas);
+            answer.digest = digest.0;
+        }
+        Some(answer)
     }
 }
 
@@ -176,28 +219,41 @@ fn inserted(fixed: Fixed, revived: &mut u64) -> Option<(u64, [u64; 3])> {
 }
 
 /// The Rust's own cells and deltas, laid out as document 01 has them, with its `len` translated as live count.
-struct Laid {
-    words: Vec<u64>,
-    deltas: Vec<u8>,
+pub struct Laid {
+    pub words: Vec<u64>,
+    pub deltas: Vec<u8>,
     record: Record,
 }
 
 impl Laid {
-    fn of(map: &dyn Rust, record: Record) -> Laid {
+    pub fn of(map: &dyn Rust, record: Record) -> Laid {
         let size = map.capacity();
         let words = (0..size).flat_map(|i| map.cell(i)).collect();
         let deltas = (0..size / 4).flat_map(|b| map.deltas(b)).collect();
         Laid { words, deltas, record }
     }
 
-    fn check(&mut self) -> Check {
+    pub fn check(&mut self) -> Check {
         Table { words: &mut self.words, deltas: &mut self.deltas, record: &mut self.record }.check()
     }
 
-    fn digest(&self, served: &Served) -> u64 {
+    /// The digest of its words and its deltas, each for itself.
+    pub fn parts(&self) -> (u64, u64) {
+        let (mut words, mut deltas) = (Digest(1), Digest(1));
+        words.words(&self.words);
+        deltas.bytes(&self.deltas);
+        (words.0, deltas.0)
+    }
+
+    fn table_digest(&self) -> u64 {
         let mut digest = Digest::new(hasher_number(self.record.hasher), self.record.live);
         digest.words(&self.words);
         digest.bytes(&self.deltas);
+        digest.0
+    }
+
+    fn digest(&self, served: &Served) -> u64 {
+        let mut digest = Digest(self.table_digest());
         served.spare_digest(&mut digest);
         digest.0
     }

@@ -1,12 +1,14 @@
 //! Writes the list that the program `replay` replays, and the answers to the sample that the program `answers` is run on.
 use crate::checks;
 use crate::form::*;
+use crate::growths;
 use crate::keys::*;
 use crate::model::Hasher;
 use crate::orders;
 use crate::real::Real;
 use crate::scenes::{self, Scene};
 use crate::served::Served;
+use crate::walks;
 use std::collections::BTreeSet;
 use std::fs;
 
@@ -55,7 +57,7 @@ fn list(random: &mut Random) -> Vec<(&'static str, Vec<Scene>)> {
     let unsound = (0..6).map(|i| checks::spoilt(random, 8 << (i % 2), HASHERS[i % 3], 1).scene).collect();
     let mut pairs: Vec<Scene> = (0..6).map(|i| orders::pair(random, 8 << (i % 2), HASHERS[i % 3]).scene()).collect();
     pairs.push(orders::one_full().scene());
-    vec![
+    let all = vec![
         ("the worked examples 1 to 7, 9 and 10 of document 01", scenes::worked()),
         ("short sequences", short),
         ("tables in everyday use", life),
@@ -68,6 +70,49 @@ fn list(random: &mut Random) -> Vec<(&'static str, Vec<Scene>)> {
         ("tables made by calls, checked", sound),
         ("the same spoilt in one place and another, checked", unsound),
         ("lists, each followed by a reordering", pairs),
+    ];
+    [all, growth(random), held(random)].concat()
+}
+
+/// Scenes of the cursor, of setting and of entries.
+fn held(random: &mut Random) -> Vec<(&'static str, Vec<Scene>)> {
+    let served = &mut Served::default();
+    let short = walks::short(4);
+    let walked = HASHERS.iter().flat_map(|hasher| [walks::walk(served, random, 8, *hasher), walks::setting(served, random, 8, *hasher)]).collect();
+    let mut entered = walks::worked();
+    entered.extend((0..12).map(|_| short[random.below(short.len() as u64) as usize].clone()));
+    entered.extend(HASHERS.iter().map(|hasher| walks::at_once(served, random, 8, *hasher)));
+    let late = HASHERS.iter().map(|hasher| walks::late(served, random, 8, *hasher, false)).collect();
+    let spoilt = HASHERS.iter().map(|hasher| walks::late(served, random, 8, *hasher, true)).collect();
+    vec![
+        ("tables walked, and values set", walked),
+        ("entries, mostly used at once", entered),
+        ("entries used late, and forged ones", late),
+        ("the same on spoilt tables", spoilt),
+    ]
+}
+
+/// The scenes of moves and growing tables.
+fn growth(random: &mut Random) -> Vec<(&'static str, Vec<Scene>)> {
+    let mut life = Vec::new();
+    for (i, cells) in [8, 16, 64].into_iter().enumerate() {
+        life.push(growths::life(random, cells, HASHERS[i], true));
+        life.push(growths::passing(random, 16, HASHERS[i], true));
+    }
+    let few = (0..3).map(|i| growths::collisions(random, 8 << i, HASHERS[i], true)).collect();
+    let spoilt = (0..6).map(|i| growths::spoilt(random, 8 << (i % 3), HASHERS[i % 3], 20)).collect();
+    let broken = (0..9).map(|i| growths::broken(random, 8 << (i % 2), HASHERS[i % 3])).collect();
+    let moves = (0..9).map(|i| growths::moves(random, HASHERS[i % 3], 2, i % 2 == 1)).collect();
+    let lengths = growths::all_lengths().into_iter().step_by(61).collect();
+    vec![
+        ("the worked examples 8, second sentence, and 11", growths::worked()),
+        ("a move that is Full in more cells", growths::wrapped(512)),
+        ("growing tables", life),
+        ("growing tables, keys of few homes", few),
+        ("growing tables, spoilt", spoilt),
+        ("full tables that a move finds broken", broken),
+        ("lengths and records that no growing table has", lengths),
+        ("plain moves, of spoilt tables too", moves),
     ]
 }
 

@@ -1,18 +1,22 @@
 //! The run: every scene goes to the model, to the Rust where it lies on its domain, and to the program.
 use crate::checks::{self, Checked};
 use crate::form::*;
+use crate::growths;
 use crate::keys::*;
 use crate::orders::{self, Held, Pair};
 use crate::program::{report, Batch, Figures, Program};
 use crate::real::Real;
 use crate::scenes::{self, Scene};
 use crate::served::Served;
+use crate::walks;
+use crate::tally::Tally;
 
 struct Judge {
     served: Served,
     real: Real,
     program: Program,
     figures: Figures,
+    tally: Tally,
     /// The pairs of runs, by the model's answers and by the Rust's.
     orders: [Held; 2],
     /// How often the model did not say of a table what its scene says.
@@ -49,6 +53,7 @@ impl Judge {
                 played.checks.push(fails);
             }
             self.figures.count(request, &answer, of_rust.is_some());
+            self.tally.count(request, &answer, &self.served);
             played.answers.push(answer);
             played.of_rust.push(of_rust.unwrap_or(answer));
         }
@@ -110,6 +115,7 @@ pub fn run(long: bool, seed: u64, command: &[String]) -> bool {
         real: Real::default(),
         program: Program::start(command),
         figures: Figures::default(),
+        tally: Tally::default(),
         orders: Default::default(),
         unexpected: 0,
         differences: 0,
@@ -122,6 +128,8 @@ pub fn run(long: bool, seed: u64, command: &[String]) -> bool {
         off(&mut judge, &mut random);
         sound(&mut judge, &mut random);
         any_order(&mut judge, &mut random);
+        held(&mut judge, &mut random);
+        growing(&mut judge, &mut random);
     }
     finish(judge)
 }
@@ -130,12 +138,18 @@ pub fn run(long: bool, seed: u64, command: &[String]) -> bool {
 fn fixed(judge: &mut Judge, long: bool) {
     judge.scenes("worked examples", scenes::worked());
     judge.scenes("bad lengths and records", scenes::all_lengths());
+    judge.scenes("growth, worked examples", growths::worked());
+    judge.scenes("growth, bad lengths and records", growths::all_lengths());
+    judge.scenes("growth, wrapped", [256, 512, 1024, 16_384, 65_536].into_iter().flat_map(growths::wrapped));
     let more = long as u32;
     judge.scenes("short sequences, fresh", scenes::short(4 + more, &[], &[1, 9, 17, 2]));
     judge.scenes("short sequences, wrapping", scenes::short(3 + more, &[], &[u64::MAX, u64::MAX - 8, 7, 8, 15]));
     judge.scenes("short sequences, nearly full", scenes::short(3 + more, &[2, 3, 4, 5, 6, 7], &[1, 9, 17, 8]));
     judge.scenes("short sequences, full", scenes::short(3 + more, &[1, 9, 2, 10, 3, 11, 4, 12], &[1, 9, 17, 12]));
     judge.pairs("any order", [orders::one_full()]);
+    judge.scenes("cursor and entries, worked", walks::worked());
+    judge.scenes("entries, lengths and records", walks::shapes());
+    judge.scenes("entries, short sequences", walks::short(4 + more));
     for size in [8, 16, 64, 256] {
         let links = [1, 2, size - 2, size - 1, size];
         judge.scenes("chains", links.iter().flat_map(|l| [2 * size, size + 1 + l % size].map(|key| scenes::chain(size, *l, key))));
@@ -194,13 +208,61 @@ fn any_order(judge: &mut Judge, random: &mut Random) {
     }
 }
 
+/// The cursor, setting and entries.
+fn held(judge: &mut Judge, random: &mut Random) {
+    let mut served = Served::default();
+    for hasher in HASHERS {
+        for size in SMALL {
+            let times = (256 / size).max(2);
+            judge.scenes("walks", (0..2 * times.max(6)).map(|_| walks::walk(&mut served, random, size, hasher)).collect::<Vec<_>>());
+            judge.scenes("setting", (0..2 * times).map(|_| walks::setting(&mut served, random, size, hasher)).collect::<Vec<_>>());
+            judge.scenes("entries at once", (0..8 * times).map(|_| walks::at_once(&mut served, random, size, hasher)).collect::<Vec<_>>());
+            judge.scenes("entries late", (0..8 * times).map(|_| walks::late(&mut served, random, size, hasher, false)).collect::<Vec<_>>());
+            judge.scenes("entries, spoilt", (0..8 * times).map(|_| walks::late(&mut served, random, size, hasher, true)).collect::<Vec<_>>());
+        }
+    }
+}
+
+/// Growing tables with room for C cells in each half, and plain moves.
+fn growing(judge: &mut Judge, random: &mut Random) {
+    for hasher in HASHERS {
+        for cells in SMALL {
+            let times = (512 / cells).max(2);
+            judge.scenes("growth", (0..times).map(|_| growths::life(random, cells, hasher, true)).collect::<Vec<_>>());
+            judge.scenes("growth, keys that pass", (0..times / 2).map(|_| growths::passing(random, cells, hasher, true)).collect::<Vec<_>>());
+            judge.scenes("growth, collisions", (0..times.min(8)).map(|_| growths::collisions(random, cells, hasher, true)).collect::<Vec<_>>());
+            judge.scenes("growth, spoilt", (0..times.min(24)).map(|_| growths::spoilt(random, cells, hasher, 80)).collect::<Vec<_>>());
+            judge.scenes("growth, broken moves", (0..20).map(|_| growths::broken(random, cells, hasher)).collect::<Vec<_>>());
+        }
+        for cells in LARGE {
+            judge.scenes("growth, large", [growths::life(random, cells, hasher, false), growths::passing(random, cells, hasher, false)]);
+            judge.scenes("growth, large", [growths::collisions(random, cells, hasher, false)]);
+        }
+        judge.scenes("plain moves", (0..80).map(|_| growths::moves(random, hasher, 6, false)).collect::<Vec<_>>());
+        judge.scenes("plain moves, spoilt", (0..80).map(|_| growths::moves(random, hasher, 6, true)).collect::<Vec<_>>());
+    }
+    for cells in [256, 512, 1024] {
+        judge.scenes("growth, runs", [growths::runs(random, cells, true)]);
+    }
+    for cells in LARGE {
+        judge.scenes("growth, runs", [growths::runs(random, cells, false)]);
+    }
+}
+
 fn finish(judge: Judge) -> bool {
-    let Judge { program, figures, differences, real, orders, unexpected, .. } = judge;
+    let Judge { program, figures, tally, differences, real, orders, unexpected, served } = judge;
+    let uses = &served.hand.uses;
     let given = program.end();
     println!();
     figures.print();
+    tally.print();
+    let growing = &real.growing;
+    println!("moves of the Rust's own growth: {}; inserts whose tries are not the model's: {}", growing.growths, growing.other_tries);
     println!("tables of the Rust's held to the eight rules: {}, unsound: {}", real.checked, real.unsound);
     println!("tables of which the model does not say what their scene says: {unexpected}");
+    uses.print();
+    let [steps, settings, made, used] = real.held.asked;
+    println!("answered by the Rust too: steps {steps}, settings {settings}, entries made {made}, entries used {used}");
     given.orders.print();
     let failures = [&given.orders, &orders[0], &orders[1]].map(|held| held.failures);
     println!("  the claim fails on the program's answers: {}, the model's: {}, the Rust's: {}", failures[0], failures[1], failures[2]);
@@ -209,5 +271,5 @@ fn finish(judge: Judge) -> bool {
     println!("answered by the Rust too, on its domain: {}", figures.of_rust);
     println!("differences of the Rust from the model: {differences}");
     println!("differences of the program from the model: {}", given.differences);
-    differences + given.differences + real.unsound + unexpected + failures.iter().sum::<u64>() == 0
+    differences + given.differences + real.unsound + real.growing.other_tries + unexpected + uses.false_stale + failures.iter().sum::<u64>() == 0
 }

@@ -151,7 +151,7 @@ fn forged_delta(random: &mut Random, size: u64) -> u64 {
 }
 
 /// Spoils a word, a delta or the record.
-fn spoil(random: &mut Random, size: u64, hasher: Hasher, keys: &[u64]) -> Request {
+pub fn spoil(random: &mut Random, size: u64, hasher: Hasher, keys: &[u64]) -> Request {
     match random.below(8) {
         0 => {
             let live = random.pick(&[0, 1, size - 1, size, size + 1, u64::MAX]);

@@ -1,33 +1,40 @@
 //! The model behind requests: it keeps between requests what the program `answers` keeps.
 use crate::form::*;
+use crate::hand::Hand;
+use crate::grown::Growth;
 use crate::model::{self, Bucket, Cell, Hasher, Record, Said, Table};
 use crate::sound::Check;
 
 /// Room in the arrays: for 131,072 cells, and 65,536 spare ones.
-const WORDS: usize = 393_216;
+pub const WORDS: usize = 393_216;
 const DELTAS: usize = 262_144;
 const SPARE_WORDS: usize = 196_608;
 const SPARE_DELTAS: usize = 131_072;
 
 pub struct Served {
-    words: Vec<u64>,
-    deltas: Vec<u8>,
-    spare_words: Vec<u64>,
-    spare_deltas: Vec<u8>,
-    lent: (usize, usize),
-    spare: (usize, usize),
+    pub words: Vec<u64>,
+    pub deltas: Vec<u8>,
+    pub spare_words: Vec<u64>,
+    pub spare_deltas: Vec<u8>,
+    pub lent: (usize, usize),
+    pub spare: (usize, usize),
     pub record: Record,
     pub digests: bool,
+    pub hand: Hand,
+    /// A growing table's size and half, and what its last insert did.
+    pub size: u64,
+    pub half: usize,
+    pub growth: Option<Growth>,
 }
 
 /// What was said by number, its values, and the count.
-struct Line(u64, [u64; 3], u64);
+pub struct Line(pub u64, pub [u64; 3], pub u64);
 
-fn plain(said: &str) -> Line {
+pub fn plain(said: &str) -> Line {
     Line(number(said), [0; 3], 0)
 }
 
-fn carrying(said: &str, value: u64) -> Line {
+pub fn carrying(said: &str, value: u64) -> Line {
     Line(number(said), [value, 0, 0], 0)
 }
 
@@ -44,7 +51,7 @@ pub fn hasher_number(hasher: Hasher) -> u64 {
 }
 
 /// What the model said, by number and with its value.
-fn numbered(said: Said) -> (u64, u64) {
+pub fn numbered(said: Said) -> (u64, u64) {
     match said {
         Said::New => (number("New"), 0),
         Said::Replaced(old) => (number("Replaced"), old),
@@ -57,6 +64,7 @@ fn numbered(said: Said) -> (u64, u64) {
         Said::Null => (3, 0),
         Said::Full(position) => (4, position),
         Said::Broken => (5, 0),
+        Said::Stale => (7, 0),
     }
 }
 
@@ -68,7 +76,7 @@ pub fn checked(check: Check) -> &'static str {
     }
 }
 
-fn told(told: model::Told) -> Line {
+pub fn told(told: model::Told) -> Line {
     let (number, value) = numbered(told.said);
     Line(number, [value, 0, 0], told.looked)
 }
@@ -89,6 +97,10 @@ impl Default for Served {
             spare: (0, 0),
             record: Record { hasher: Hasher::Simple, live: 0 },
             digests: false,
+            hand: Hand::default(),
+            size: 0,
+            half: 0,
+            growth: None,
         }
     }
 }
@@ -108,9 +120,18 @@ impl Served {
             TABLE => self.fresh(request),
             17..=31 => self.call(request),
             32..=47 => self.bucket(request),
+            48..=63 => self.halved(request),
+            64..=79 => self.hand(request),
             _ => plain("no such request"),
         };
-        let capacity = self.table().size().unwrap_or(0) as u64;
+        if request.kind < CURSOR {
+            self.hand.passed();
+        }
+        let mut values = values;
+        let mut capacity = self.table().size().unwrap_or(0) as u64;
+        if (HALVES..=GROW_CHECK).contains(&request.kind) {
+            (values[2], capacity) = (self.half as u64, self.size);
+        }
         let digest = if self.digests || request.kind == DIGEST { self.digest() } else { 0 };
         let Record { hasher, live } = self.record;
         Answer { number, values, looked, hasher: hasher_number(hasher), live, capacity, digest }
@@ -204,6 +225,14 @@ impl Served {
             },
             _ => plain("no such request"),
         }
+    }
+
+    /// The cursor, setting and entries.
+    fn hand(&mut self, request: &Request) -> Line {
+        let mut hand = std::mem::take(&mut self.hand);
+        let (number, values) = hand.serve(&mut self.table(), request);
+        self.hand = hand;
+        Line(number, values, 0)
     }
 
     /// Buckets out and in. What is refused hands an empty bucket back, and that is what goes on.

@@ -1,5 +1,6 @@
 // The kinds of request: their numbers and their words. 0 to 7 concern what is kept between requests alone, 8 to 15 forge
 // memory, the others are calls.
+use crate::hand;
 use crate::words::entry;
 use check::same;
 
@@ -56,6 +57,27 @@ pub const COPY: u64 = 33;
 pub const CELL: u64 = 34;
 
 pub const CHANGE: u64 = 35;
+
+pub const MOVE: u64 = 48;
+
+pub const MOVE_BACK: u64 = 49;
+
+pub const HALVES: u64 = 50;
+
+pub const CLEAR_HALVES: u64 = 51;
+
+pub const IN_USE: u64 = 52;
+
+pub const GROW: u64 = 53;
+
+pub const GROW_FIND: u64 = 54;
+
+pub const GROW_REMOVE: u64 = 55;
+
+pub const PARTS: u64 = 56;
+
+pub const GROW_CHECK: u64 = 57;
+
 // Any number from here on is no request; these two are lines of text that are none.
 pub const END: u64 = 1000;
 
@@ -73,26 +95,41 @@ fn is_word(word: &[u8], kind: usize) -> bool {
                   remove        len           is_empty      capacity      \
                   contains_key  get_key_value hash          check         \
                   .             .             .             .             \
-                  take          copy          cell          change        ";
+                  take          copy          cell          change        \
+                  .             .             .             .             \
+                  .             .             .             .             \
+                  .             .             .             .             \
+                  move          move_back     halves        clear_halves  \
+                  in_use        grow          grow_find     grow_remove   \
+                  parts         grow_check    ";
     same(entry(words, 14 * (kind % 1024), 14), word)
 }
 
 // The kind that has this word, or END.
 pub fn kind_of(word: &[u8]) -> u64 {
     let mut kind = 0;
-    while kind < 36 {
+    while kind < 58 {
         if is_word(word, kind) {
             return kind as u64;
         }
         kind += 1;
     }
-    END
+    hand::kind_of(word)
 }
 
 // Whether an answer of that kind has a count of cells looked at.
 pub fn looks(kind: u64) -> bool {
     match kind {
         INSERT | FIND | REMOVE => true,
+        GROW | GROW_FIND | GROW_REMOVE => true,
+        _ => false,
+    }
+}
+
+// Whether an answer of that kind says where a growing table is.
+pub fn grows(kind: u64) -> bool {
+    match kind {
+        HALVES..=GROW_CHECK => true,
         _ => false,
     }
 }

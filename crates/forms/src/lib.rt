@@ -2,6 +2,8 @@
 // the list of requests. A kind of request has its number and its word here, and what it does in the crate `serving`.
 pub mod bytes;
 pub mod digest;
+pub mod growing;
+pub mod hand;
 pub mod kinds;
 pub mod line;
 pub mod reader;

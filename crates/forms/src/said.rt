@@ -1,4 +1,5 @@
 // What is said: numbers and names. Refusals have document 01's numbers, 1 to 9; 0 is a request that no one knows.
+use crate::hand;
 use crate::line::text;
 use crate::words::entry;
 
@@ -13,6 +14,10 @@ pub const NULL: u64 = 3;
 pub const FULL: u64 = 4;
 
 pub const BROKEN: u64 = 5;
+
+pub const STALE: u64 = 7;
+
+pub const NO_ROOM: u64 = 6;
 
 pub const UNSOUND: u64 = 9;
 // A request that is no call was carried out.
@@ -48,8 +53,15 @@ pub const CELL: u64 = 30;
 
 pub const SOUND: u64 = 31;
 
+pub const MOVED: u64 = 40;
+
+pub const PARTS: u64 = 41;
+
 // The name of a number, 20 bytes to each.
 pub fn name(line: &mut [u8; 512], used: usize, said: u64) -> usize {
+    if hand::NEXT <= said {
+        return hand::name(line, used, said);
+    }
     let names = b"no such request     refused 1 Shape     \
                   refused 2 Zero hash refused 3 Null      \
                   refused 4 Full      refused 5 Broken    \
@@ -65,7 +77,12 @@ pub fn name(line: &mut [u8; 512], used: usize, said: u64) -> usize {
                   Number              yes                 \
                   no                  Pair                \
                   Taken               Put                 \
-                  Cell                Sound               ";
+                  Cell                Sound               \
+                  .                   .                   \
+                  .                   .                   \
+                  .                   .                   \
+                  .                   .                   \
+                  Moved               Parts               ";
     text(line, used, entry(names, 20 * (said as usize % 1024), 20))
 }
 
@@ -75,6 +92,6 @@ pub fn values(said: u64) -> u64 {
         FULL | REPLACED | FOUND | REMOVED | NUMBER => 1,
         PAIR => 2,
         CELL => 3,
-        _ => 0,
+        _ => hand::values(said),
     }
 }

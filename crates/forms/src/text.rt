@@ -1,6 +1,7 @@
 // A request as a line of text, and an answer behind it.
 use crate::Answer;
 use crate::Request;
+use crate::growing;
 use crate::kinds;
 use crate::kinds::kind_of;
 use crate::line::hex;
@@ -98,6 +99,7 @@ pub fn answer(line: &mut [u8; 512], used: usize, kind: u64, answer: Answer) -> u
     if kinds::looks(kind) {
         n = labelled(line, n, b", looked ", answer.looked);
     }
+    n = growing::place(line, n, kind, answer);
     n = labelled(line, n, b", live ", answer.live);
     if answer.digest != 0 {
         n = digest(line, n, b", table ", answer.digest);

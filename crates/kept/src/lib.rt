@@ -4,14 +4,18 @@ pub mod forge;
 pub mod show;
 
 use cells::Table;
+use cursors::Hand;
 use forms::Request;
 use forms::digest::lent_bytes;
 use forms::digest::lent_words;
 use forms::digest::mix;
 use forms::kinds;
+use halves::Growing;
+use halves::Half;
 use hashers::Hasher;
 
-// The record, how much is lent of the table's arrays and of the spare ones, and whether each answer has a digest.
+// The record, how much is lent of the table's arrays and of the spare ones, whether each answer has a digest, the cursor and entry
+// that are held, and the size and the half in use of a growing table, which has the same table record.
 pub struct State {
     pub table: Table,
     pub words: usize,
@@ -19,6 +23,9 @@ pub struct State {
     pub spare_words: usize,
     pub spare_deltas: usize,
     pub digests: bool,
+    pub hand: Hand,
+    pub size: usize,
+    pub half: Half,
 }
 
 // What the arrays have: room for 131,072 cells, twice the greatest size, and for 65,536 spare ones.
@@ -31,6 +38,8 @@ const DELTAS: u64 = 262_144;
 const SPARE_WORDS: u64 = 196_608;
 
 const SPARE_DELTAS: u64 = 131_072;
+
+const SPARE_CELLS: u64 = 65_536;
 
 pub enum Named {
     Is(Hasher),
@@ -78,11 +87,21 @@ impl State {
             spare_words: 0,
             spare_deltas: 0,
             digests: false,
+            hand: Hand::start(),
+            size: 0,
+            half: Half::Lower,
         }
     }
 
     // The same with another record.
     pub fn with(self, table: Table) -> State {
+        let hand = self.hand;
+        self.holding(table, hand)
+    }
+
+    // The same with another record, cursor and entry.
+    pub fn holding(self, table: Table, hand: Hand) -> State {
+        let half = self.half;
         State {
             table,
             words: self.words,
@@ -90,12 +109,17 @@ impl State {
             spare_words: self.spare_words,
             spare_deltas: self.spare_deltas,
             digests: self.digests,
+            hand,
+            size: self.size,
+            half,
         }
     }
 
     // lend WORDS DELTAS: from now on so many of each are lent; what stands there stays.
     fn lending(self, words: usize, deltas: usize) -> State {
+        let hand = self.hand;
         let table = self.table;
+        let half = self.half;
         State {
             table,
             words,
@@ -103,12 +127,17 @@ impl State {
             spare_words: self.spare_words,
             spare_deltas: self.spare_deltas,
             digests: self.digests,
+            hand,
+            size: self.size,
+            half,
         }
     }
 
     // spare WORDS DELTAS: the same for the spare arrays.
     fn sparing(self, spare_words: usize, spare_deltas: usize) -> State {
+        let hand = self.hand;
         let table = self.table;
+        let half = self.half;
         State {
             table,
             words: self.words,
@@ -116,12 +145,17 @@ impl State {
             spare_words,
             spare_deltas,
             digests: self.digests,
+            hand,
+            size: self.size,
+            half,
         }
     }
 
     // digests ON: from now on each answer has a digest, or none where ON is 0.
     fn digesting(self, digests: bool) -> State {
+        let hand = self.hand;
         let table = self.table;
+        let half = self.half;
         State {
             table,
             words: self.words,
@@ -129,6 +163,9 @@ impl State {
             spare_words: self.spare_words,
             spare_deltas: self.spare_deltas,
             digests,
+            hand,
+            size: self.size,
+            half,
         }
     }
 
@@ -151,6 +188,45 @@ impl State {
         self
     }
 
+    // halves CELLS SIZE HASHER: lends so many cells as each half, before it clears them.
+    fn halved(self, cells: u64) -> State {
+        if cells <= SPARE_CELLS {
+            let w = 3 * cells as usize;
+            let d = 2 * cells as usize;
+            return self.lending(w, d).sparing(w, d);
+        }
+        self
+    }
+
+    // The record of the growing table.
+    pub fn growing(self) -> Growing {
+        let table = self.table;
+        let half = self.half;
+        Growing {
+            table,
+            size: self.size,
+            half,
+        }
+    }
+
+    // The same with another record of the growing table.
+    pub fn with_growing(self, growing: Growing) -> State {
+        let table = growing.table;
+        let half = growing.half;
+        let hand = self.hand;
+        State {
+            table,
+            words: self.words,
+            deltas: self.deltas,
+            spare_words: self.spare_words,
+            spare_deltas: self.spare_deltas,
+            digests: self.digests,
+            hand,
+            size: growing.size,
+            half,
+        }
+    }
+
     // What is kept after the request, the record of a call aside.
     pub fn changed(self, request: Request) -> State {
         let kind = request.kind;
@@ -158,6 +234,9 @@ impl State {
         let b = request.b;
         if kind == kinds::TABLE {
             return self.sized(a);
+        }
+        if kind == kinds::HALVES {
+            return self.halved(a);
         }
         if !is_good(request) {
             return self;

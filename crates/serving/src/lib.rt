@@ -1,5 +1,7 @@
 // Serves requests on a lent table: what the programs `answers` and `replay` share. A request is served in four steps: what
 // is kept between requests, the call, the record that it left, and the answer with a digest.
+mod growing;
+mod held;
 pub mod lines;
 
 use calls::Called;
@@ -78,7 +80,7 @@ fn capacity_of(words: &[u64], deltas: &[u8], w: usize, d: usize) -> u64 {
 }
 
 // The answer that goes with what was told, and with what stands there now.
-fn answer_of(
+pub fn answer_of(
     words: &[u64],
     deltas: &[u8],
     spare_words: &[u64],
@@ -102,16 +104,15 @@ fn answer_of(
     }
 }
 
-// Serves one request.
-pub fn turn(
+// Serves a request on one table.
+fn turn_table(
     words: &mut [u64],
     deltas: &mut [u8],
     spare_words: &mut [u64],
     spare_deltas: &mut [u8],
-    before: State,
+    state: State,
     request: Request,
 ) -> Answered {
-    let state = before.changed(request);
     let called = serve(words, deltas, spare_words, spare_deltas, state, request);
     let told = called.told;
     let table = called.table;
@@ -128,4 +129,23 @@ pub fn turn(
         ),
         state: next,
     }
+}
+
+// Serves one request.
+pub fn turn(
+    words: &mut [u64],
+    deltas: &mut [u8],
+    spare_words: &mut [u64],
+    spare_deltas: &mut [u8],
+    before: State,
+    request: Request,
+) -> Answered {
+    let state = before.changed(request);
+    if request.kind / 16 == 3 {
+        return growing::turn(words, deltas, spare_words, spare_deltas, state, request);
+    }
+    if request.kind / 16 == 4 {
+        return held::turn(words, deltas, spare_words, spare_deltas, state, request);
+    }
+    turn_table(words, deltas, spare_words, spare_deltas, state, request)
 }

@@ -8,7 +8,7 @@ abbrev Inv-loop : tie.InvT-loop
 Inv-loop word kind₀ kind = Unit {0}
 
 abbrev μ-loop : tie.MeasureT-loop
-μ-loop word kind₀ kind = 36 - kind
+μ-loop word kind₀ kind = 58 - kind
 
 loop-holds : tie.Need-loop-holds Inv-loop μ-loop
 loop-holds c = search needs
@@ -28,6 +28,9 @@ loop-less c = search needs
 loop-again : tie.Need-loop-again Inv-loop μ-loop
 loop-again c = search needs
 
+kind-of-requires : tie.Need-kind-of-requires Inv-loop μ-loop
+kind-of-requires c κs = search needs
+
 returns-2 : tie.Need-returns-2 Inv-loop μ-loop
 returns-2 c = search needs
 
@@ -43,4 +46,5 @@ kind-of-spec =
     add-kind
     loop-less
     loop-again
+    kind-of-requires
     returns-2)

@@ -1,0 +1,13 @@
+pub mod History
+pub mod Steps
+pub mod Keys
+pub mod Fixed
+pub mod Grown
+pub mod Moves
+pub mod Halves
+pub mod After
+pub mod Cleared
+pub mod MovedTo
+pub mod Calls
+pub mod Live
+pub mod Worked
