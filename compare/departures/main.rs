@@ -68,7 +68,7 @@ fn show(number: usize, difference: &Difference, debug: &str, programs: &Programs
         Here::Same => (),
         Here::Asked(asks) => asks.iter().zip(programs.answers(asks)).for_each(|(ask, said)| println!("  {ask:<30} here: {said}")),
         Here::Vectors(words) => programs.vectors(words).iter().for_each(|line| println!("  here: {line}")),
-        Here::Rule(text) => println!("  here, by document 01, not built yet: {text}"),
+        Here::Rule(text) => println!("  here, by document 01: {text}"),
     }
     println!();
 }

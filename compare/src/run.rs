@@ -129,7 +129,7 @@ pub fn run(long: bool, seed: u64, command: &[String]) -> bool {
         sound(&mut judge, &mut random);
         any_order(&mut judge, &mut random);
         held(&mut judge, &mut random);
-        growing(&mut judge, &mut random);
+        growing(&mut judge, &mut random, long);
     }
     finish(judge)
 }
@@ -139,8 +139,9 @@ fn fixed(judge: &mut Judge, long: bool) {
     judge.scenes("worked examples", scenes::worked());
     judge.scenes("bad lengths and records", scenes::all_lengths());
     judge.scenes("growth, worked examples", growths::worked());
-    judge.scenes("growth, bad lengths and records", growths::all_lengths());
-    judge.scenes("growth, wrapped", [256, 512, 1024, 16_384, 65_536].into_iter().flat_map(growths::wrapped));
+    let (step, wrapped) = if long { (1, &[256, 512, 1024, 16_384, 65_536][..]) } else { (23, &[256, 512][..]) };
+    judge.scenes("growth, bad lengths and records", growths::all_lengths().into_iter().step_by(step));
+    judge.scenes("growth, wrapped", wrapped.iter().flat_map(|cells| growths::wrapped(*cells)));
     let more = long as u32;
     judge.scenes("short sequences, fresh", scenes::short(4 + more, &[], &[1, 9, 17, 2]));
     judge.scenes("short sequences, wrapping", scenes::short(3 + more, &[], &[u64::MAX, u64::MAX - 8, 7, 8, 15]));
@@ -224,27 +225,29 @@ fn held(judge: &mut Judge, random: &mut Random) {
 }
 
 /// Growing tables with room for C cells in each half, and plain moves.
-fn growing(judge: &mut Judge, random: &mut Random) {
+fn growing(judge: &mut Judge, random: &mut Random, long: bool) {
+    // growing tables in large halves take long: each try clears a half, and each digest reads both
+    let (small, large, share) = if long { (&SMALL[..], &LARGE[..], 512) } else { (&SMALL[..6], &LARGE[..1], 64) };
     for hasher in HASHERS {
-        for cells in SMALL {
-            let times = (512 / cells).max(2);
+        for &cells in small {
+            let times = (share / cells).max(2);
             judge.scenes("growth", (0..times).map(|_| growths::life(random, cells, hasher, true)).collect::<Vec<_>>());
             judge.scenes("growth, keys that pass", (0..times / 2).map(|_| growths::passing(random, cells, hasher, true)).collect::<Vec<_>>());
             judge.scenes("growth, collisions", (0..times.min(8)).map(|_| growths::collisions(random, cells, hasher, true)).collect::<Vec<_>>());
             judge.scenes("growth, spoilt", (0..times.min(24)).map(|_| growths::spoilt(random, cells, hasher, 80)).collect::<Vec<_>>());
-            judge.scenes("growth, broken moves", (0..20).map(|_| growths::broken(random, cells, hasher)).collect::<Vec<_>>());
+            judge.scenes("growth, broken moves", (0..times.min(20)).map(|_| growths::broken(random, cells, hasher)).collect::<Vec<_>>());
         }
-        for cells in LARGE {
+        for &cells in large {
             judge.scenes("growth, large", [growths::life(random, cells, hasher, false), growths::passing(random, cells, hasher, false)]);
             judge.scenes("growth, large", [growths::collisions(random, cells, hasher, false)]);
         }
-        judge.scenes("plain moves", (0..80).map(|_| growths::moves(random, hasher, 6, false)).collect::<Vec<_>>());
-        judge.scenes("plain moves, spoilt", (0..80).map(|_| growths::moves(random, hasher, 6, true)).collect::<Vec<_>>());
+        judge.scenes("plain moves", (0..share / 8).map(|_| growths::moves(random, hasher, 6, false)).collect::<Vec<_>>());
+        judge.scenes("plain moves, spoilt", (0..share / 8).map(|_| growths::moves(random, hasher, 6, true)).collect::<Vec<_>>());
     }
-    for cells in [256, 512, 1024] {
+    for cells in [256, 512] {
         judge.scenes("growth, runs", [growths::runs(random, cells, true)]);
     }
-    for cells in LARGE {
+    for &cells in large {
         judge.scenes("growth, runs", [growths::runs(random, cells, false)]);
     }
 }
