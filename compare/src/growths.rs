@@ -46,6 +46,47 @@ pub fn wrapped(to: u64) -> Vec<Scene> {
     vec![plain, grown]
 }
 
+/// A run of 129 taken cells from `from` on in a table of `size` cells, of which `live` of the last 64 stay live: the next key of
+/// its first home is Full, and the sample counts so many.
+fn crowded(random: &mut Random, from: u64, live: u64) -> Scene {
+    let keys: Vec<u64> = (0..129).map(|i| from + i + (random.below(1000) << 32)).collect();
+    let mut scene: Scene = keys.iter().map(|key| grow(random, *key)).collect();
+    scene.extend(keys[..129 - live as usize].iter().map(|key| ask(GROW_REMOVE, &[*key])));
+    scene.push(grow(random, from + (1000 << 32)));
+    scene
+}
+
+/// Growth whose first try is smaller than the table and Full, under Simple: the keys of a run and one more, whose homes are apart
+/// at 4T cells and at 2T, have their homes together at T.
+pub fn full_below(random: &mut Random, to: u64, cells: u64) -> Scene {
+    let from = random.below(to / 2 - 128);
+    let mut scene = halves(cells, 4 * to, Hasher::Simple, false);
+    scene.extend((0..129).map(|i| grow(random, from + i)));
+    scene.push(grow(random, from + 3 * to));
+    let live = 5 + random.below(4);
+    scene.extend(crowded(random, from + 2 * to + 140, live));
+    scene.extend([ask(GROW_FIND, &[from + 3 * to]), ask(PARTS, &[]), ask(GROW_CHECK, &[]), ask(DIGEST, &[])]);
+    scene
+}
+
+/// Growth whose first try has the table's own size and is Full, under Simple: a removed key leaves a gap in a run, which in index
+/// order the key that had been pushed out of it takes, so that the last key of the run's first home finds no cell. `apart`: that
+/// key has another home at twice the size; else only NoRoom ends it.
+pub fn full_again(random: &mut Random, size: u64, cells: u64, apart: bool) -> Scene {
+    let from = random.below(size / 8);
+    let (gap, high) = (from + 100, 1 << 32);
+    let last = if apart { from + size + high } else { from + high };
+    let mut scene = halves(cells, size, Hasher::Simple, false);
+    scene.extend((0..100).map(|i| grow(random, from + i)));
+    scene.push(grow(random, from + 2 * high));
+    scene.extend((101..129).map(|i| grow(random, from + i)));
+    scene.extend([grow(random, gap + high), grow(random, last), ask(GROW_REMOVE, &[from + 2 * high])]);
+    let live = 17 + random.below(16);
+    scene.extend(crowded(random, from + size / 2, live));
+    scene.extend([ask(GROW_FIND, &[last]), ask(PARTS, &[]), ask(GROW_CHECK, &[]), ask(DIGEST, &[])]);
+    scene
+}
+
 /// One request of a user's on a growing table.
 fn everyday(random: &mut Random, hasher: Hasher, keys: &[u64]) -> Request {
     let key = random.pick(keys);

@@ -23,7 +23,6 @@ pub trait Rust: Entered {
     fn hash(&self, key: u64) -> u64;
     fn cell(&self, i: usize) -> [u64; 3];
     fn deltas(&self, b: usize) -> [u8; 8];
-    fn claimed(&self) -> usize;
     fn moved(&self, cells: usize) -> Option<Box<dyn Rust>>;
 }
 
@@ -63,9 +62,6 @@ impl<H: std::hash::Hasher + Default + 'static, A: Allocator + Clone + 'static> R
     }
     fn deltas(&self, b: usize) -> [u8; 8] {
         peek::deltas(self, b)
-    }
-    fn claimed(&self) -> usize {
-        peek::claimed(self)
     }
     fn moved(&self, cells: usize) -> Option<Box<dyn Rust>> {
         peek::moved(self, cells).map(|map| Box::new(map) as Box<dyn Rust>)

@@ -244,6 +244,11 @@ fn growing(judge: &mut Judge, random: &mut Random, long: bool) {
         judge.scenes("plain moves", (0..share / 8).map(|_| growths::moves(random, hasher, 6, false)).collect::<Vec<_>>());
         judge.scenes("plain moves, spoilt", (0..share / 8).map(|_| growths::moves(random, hasher, 6, true)).collect::<Vec<_>>());
     }
+    for size in [512, 1024] {
+        for (cells, apart) in [(size, false), (2 * size, true), (4 * size, true), (2 * size, false)] {
+            judge.scenes("growth, Full tries", [growths::full_again(random, size, cells, apart), growths::full_below(random, size, 2 * cells.max(2 * size))]);
+        }
+    }
     for cells in [256, 512] {
         judge.scenes("growth, runs", [growths::runs(random, cells, true)]);
     }

@@ -1,4 +1,4 @@
-//! Counts of what growth and moves came upon in a run.
+//! Counts of what a run came upon: forged memory, moves and growth.
 use crate::form::*;
 use crate::grown::{Grew, Growth};
 use crate::model::Said;
@@ -6,6 +6,9 @@ use crate::served::Served;
 
 #[derive(Default)]
 pub struct Tally {
+    /// Memories that were written by hand, and then met a call; whether there is one now.
+    forged: u64,
+    written: bool,
     calls: u64,
     most: u64,
     /// Moves that lower, keep, double or more than double the size.
@@ -26,6 +29,14 @@ pub struct Tally {
 
 impl Tally {
     pub fn count(&mut self, request: &Request, answer: &Answer, served: &Served) {
+        match request.kind {
+            RECORD | WORD | DELTA | SPARE_WORD | SPARE_DELTA | IN_USE => self.written = true,
+            // these do not look at what is there
+            TABLE | CLEAR | HALVES | CLEAR_HALVES => self.written = false,
+            LEN | IS_EMPTY | HASH | CURSOR | FORGE_OCCUPIED | FORGE_VACANT | ENTRY_KEY => (),
+            INSERT.. => self.forged += std::mem::take(&mut self.written) as u64,
+            _ => (),
+        }
         match request.kind {
             GROW => self.grew(served.growth.as_ref().unwrap()),
             MOVE | MOVE_BACK => self.moved(request.kind, answer, served),
@@ -69,7 +80,8 @@ impl Tally {
     }
 
     pub fn print(&self) {
-        let Tally { calls, most, lower, keep, double, more, failed, no_try, tried, after_move, broken, plain } = self;
+        println!("memories written by hand that met a call: {}", self.forged);
+        let Tally { calls, most, lower, keep, double, more, failed, no_try, tried, after_move, broken, plain, .. } = self;
         println!("inserts that grew: {calls}, with up to {most} moves; tries that were Full: {failed}");
         println!("  moves that lower the size: {lower}, keep it: {keep}, double it: {double}, more than double it: {more}");
         println!("  NoRoom with no try: {no_try}, after a try: {tried}; after a move of the same call: {after_move}");

@@ -12,10 +12,11 @@ use Rattle.cells.specs.declared.Table.{Table}
 use Rattle.buckets.specs.Buckets.{listed, bucketAt, deltaIn, cellIn, wordsOf}
 use Rattle.buckets.specs.declared.Bucket.{Bucket}
 
--- bucket b (no call reads past the last: there is none)
+-- stands for a bucket past the last, which no call reads
 abbrev pub noBucket : Bucket
 noBucket = record { deltas = []; cells = [] }
 
+-- bucket b
 abbrev pub bucketIn : List Bucket → ℕ → Bucket
 bucketIn bs b = getD bs b noBucket
 

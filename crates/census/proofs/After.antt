@@ -18,7 +18,8 @@ use Rattle.halves.specs.declared.Growing.{Growing}
 use Rattle.halves.proofs.Checks.{halves-hold}
 use Rattle.growth.specs.Growth.{lowerOf, upperOf, grewFrom}
 use Rattle.growthlaws.specs.Grown as checks
-use Rattle.growthlaws.specs.Grown.{GrowChecked, heldBecome, isCleared, anyMove, halfAfter, grown}
+use Rattle.movelaws.specs.Plain.{heldBecome}
+use Rattle.growthlaws.specs.Grown.{GrowChecked, isCleared, anyMove, halfAfter, grown}
 use Rattle.growthlaws.proofs.Checks.{grow-checked, passed-shaped}
 use Rattle.growthlaws.proofs.Moves.{grown-where, grown-used}
 use Rattle.grownlaws.proofs.Within.{grow-within}

@@ -15,7 +15,7 @@ use Rattle.laws.specs.Ways as ways
 use Rattle.laws.specs.Ways.{InsertChecked, RemoveChecked}
 use Rattle.laws.proofs.Ways.{insert-checked, remove-checked}
 use Rattle.laws.proofs.Refusals.{insert-refused-leaves}
-use Rattle.sound.specs.State.{State, noCell, removedCell, liveCell, stateOf, after, SoundTable, Sized, Acceptable, finds, inserts, removes, withoutValue}
+use Rattle.sound.specs.State.{State, noCell, removedCell, liveCell, stateOf, after, SoundTable, Sized, Acceptable, finds, inserts, removes, withoutValue, IsLive}
 use Rattle.sound.proofs.Keeping.{insert-keeps-sound, remove-keeps-sound}
 use Rattle.sound.proofs.ByKey.{insert-says, insert-makes-live, insert-others, remove-says, remove-own, remove-others}
 use Rattle.entrylaws.specs.Sound.{UseAs, checked, as-find, as-insert, as-remove}
@@ -24,7 +24,6 @@ use Rattle.walked.specs.Ways as sets
 use Rattle.walked.specs.Ways.{SetWay}
 use Rattle.walked.proofs.Ways.{set-way}
 use Rattle.walked.proofs.Sets.{set-keeps-sound, set-others, set-own-before, set-own}
-use Rattle.order.proofs.LiveKeys.{IsLive}
 use Rattle.census.specs.History.{put, drop, still}
 use Rattle.census.specs.Steps.{LiveIn, Step}
 use Rattle.census.specs.Events.{eventBy}

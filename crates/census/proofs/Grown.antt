@@ -11,7 +11,8 @@ use Rattle.rules.specs.Growing.{LentHalves, inUse, GrowOutcome, refusedAt, roun
 use Rattle.sound.specs.State.{stateOf, SoundTable}
 use Rattle.sound.proofs.Keeping.{zero-passes, offered-passes}
 use Rattle.growthlaws.specs.Grown as checks
-use Rattle.growthlaws.specs.Grown.{Halves, GrowChecked, heldBecome, grown}
+use Rattle.movelaws.specs.Plain.{heldBecome}
+use Rattle.growthlaws.specs.Grown.{Halves, GrowChecked, grown}
 use Rattle.growthlaws.proofs.Checks.{grow-checked, passed-size, passed-most, passed-C, passed-clear}
 use Rattle.growthlaws.proofs.Sound.{Kept, rounds-kept}
 use Rattle.census.specs.Steps.{Step}

@@ -8,10 +8,9 @@ use Rattle.rules.specs.Cells.{Lent}
 use Rattle.rules.specs.Sound.{Fresh}
 use Rattle.rules.specs.Answers.{Outcome}
 use Rattle.laws.specs.Left.{Leaves}
-use Rattle.sound.specs.State.{State, noCell, removedCell, liveCell, stateOf, after, SoundTable, finds}
+use Rattle.sound.specs.State.{State, noCell, removedCell, liveCell, stateOf, after, SoundTable, finds, IsLive}
 use Rattle.sound.proofs.Keeping.{fresh-sound}
 use Rattle.movelaws.specs.Movable.{stateMoved}
-use Rattle.order.proofs.LiveKeys.{IsLive}
 use Rattle.census.specs.History.{put, drop, wipe, still}
 use Rattle.census.specs.Steps.{LiveIn, Step}
 use Rattle.census.proofs.Steps.{fresh-none}

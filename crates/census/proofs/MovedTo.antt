@@ -22,7 +22,7 @@ use Rattle.movelaws.proofs.Fresh.{fresh-clear}
 use Rattle.sound.specs.State.{SoundTable}
 use Rattle.census.specs.History.{still}
 use Rattle.census.specs.Steps.{Step}
-use Rattle.census.specs.Stores.{Store, alone, halved, tableIn, moveFrom, movedTo}
+use Rattle.census.specs.Stores.{Store, alone, halved, tableIn, moveFrom, movedTo, failedTo}
 use Rattle.census.specs.Starts.{FreshTable, freshAlone}
 use Rattle.census.proofs.Keys.{stay}
 use Rattle.census.proofs.Moves.{stopped-shaped, move-step}
@@ -63,7 +63,7 @@ module _ (shaped : Bool) (S : ℕ) (hasher : Hasher) (cells : Cells) (value : �
       let d = move-done l (isShaped ws ds) T (clearHeld T) c e in
       let x = shaped-size ws ds (d .is-shaped) in
       let f = movesAll l T (clearHeld T) .fills in
-      let q : lent (wordsBecome T (o .to) ws) (deltasBecome T (o .to) ds) (record { hasher = hasher; live = c .live }) ≡ lentMoved l T (heldBecome (heldIn ws ds) (clearHeld T) (o .to)) c =
+      let q : lent (wordsBecome T (o .to) ws) (deltasBecome T (o .to) ds) (record { hasher = hasher; live = c .live }) ≡ lentMoved l T (heldBecome (clearHeld T) (o .to) (heldIn ws ds)) c =
       rw (d .to) (filled c f x (moved-held null S (heldOf l) counts T T x (omega arith))) in
       subst (λ (n : Lent). Step l still n) (sym q)
       (move-step l (isShaped ws ds) T (clearHeld T) (shaped-size ws ds) (λ y. fresh-clear T T (shaped-size ws ds y) (omega arith)) s c e (heldIn ws ds))
@@ -82,16 +82,6 @@ moved-step (halved h) ws ds t = go (moveFrom (halved h) ws ds .ended) refl
     go (stop n x) q = stay (tableIn (halved h)) t
 
 -- ---- the destination of one that fails
-
--- what it leaves there, with a record of live 0 and the hasher of your choice
-abbrev pub failedTo : Store → (ws ds : List ℕ) → Hasher → Store
-failedTo s ws ds hasher =
-    alone
-    (record {
-      words = wordsBecome (sizeIn ds) (moveFrom s ws ds .to) ws;
-      deltas = deltasBecome (sizeIn ds) (moveFrom s ws ds .to) ds;
-      table = record { hasher = hasher; live = 0 };
-    })
 
 -- after Full or Broken that is a fresh table, where a history of its own starts
 pub failed-fresh : (s : Store) (ws ds : List ℕ) (n : ℕ) (x : List ℕ) → moveFrom s ws ds .ended ≡ stop n x → n ≢ 1 → (hasher : Hasher) → FreshTable (failedTo s ws ds hasher)

@@ -9,12 +9,11 @@ use native.Mathlib.Omega.{arith}
 use Rattle.rules.specs.Sizes.{isSize}
 use Rattle.rules.specs.Cells.{Counts, Lent}
 use Rattle.rules.specs.Moves.{Held, all, stop, MoveOutcome, move}
-use Rattle.sound.specs.State.{stateOf, SoundTable}
+use Rattle.sound.specs.State.{stateOf, SoundTable, IsLive}
 use Rattle.movelaws.specs.Carried.{IsClear}
 use Rattle.movelaws.specs.Movable.{stateMoved}
 use Rattle.movelaws.specs.Plain.{heldBecome, lentMoved}
 use Rattle.movelaws.proofs.Plain.{check1, MoveWay, refused, went, full, broken, move-way, plain-sound, plain-state}
-use Rattle.order.proofs.LiveKeys.{IsLive}
 use Rattle.census.specs.History.{still}
 use Rattle.census.specs.Steps.{LiveIn, Step}
 use Rattle.census.proofs.Keys.{moved-live, same-step}
@@ -37,10 +36,10 @@ module _ (l : Lent) (shaped : Bool) (T : ℕ) (clear : Held) (size : shaped ≡ 
     (s : SoundTable l) where
   -- a plain move that succeeds
   pub move-step : (c : Counts) → move l shaped T clear .ended ≡ all c → (old : Held)
-      → Step l still (lentMoved l T (heldBecome old clear (move l shaped T clear .to)) c)
+      → Step l still (lentMoved l T (heldBecome clear (move l shaped T clear .to) old) c)
   move-step c e old =
-      same-step l (lentMoved l T (heldBecome old clear (move l shaped T clear .to)) c) (plain-sound l shaped T clear size empty s c e old) (λ q. alike q (moved-live (stateOf l q)))
+      same-step l (lentMoved l T (heldBecome clear (move l shaped T clear .to) old) c) (plain-sound l shaped T clear size empty s c e old) (λ q. alike q (moved-live (stateOf l q)))
     where
       alike : (q : ℕ) → IsLive (stateMoved (stateOf l q)) ↔ IsLive (stateOf l q)
-          → LiveIn (lentMoved l T (heldBecome old clear (move l shaped T clear .to)) c) q ↔ LiveIn l q
+          → LiveIn (lentMoved l T (heldBecome clear (move l shaped T clear .to) old) c) q ↔ LiveIn l q
       alike q x = rw (plain-state l shaped T clear size empty s c e old q) x

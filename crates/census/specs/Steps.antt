@@ -4,8 +4,7 @@ use mathlib.Core.Logic.{_≢_, _⊎_, _↔_}
 use mathlib.Core.Path.{_≡_}
 use Prim.Native.Nat.{ℕ}
 use Rattle.rules.specs.Cells.{Lent}
-use Rattle.sound.specs.State.{stateOf, SoundTable}
-use Rattle.order.proofs.LiveKeys.{IsLive}
+use Rattle.sound.specs.State.{stateOf, SoundTable, IsLive}
 use Rattle.census.specs.History.{Event, put, drop, wipe, still}
 
 -- the key is live in the table

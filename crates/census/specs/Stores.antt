@@ -100,3 +100,13 @@ abbrev pub twoGrown : TwoHalves → GrowOutcome → TwoHalves
 twoGrown h o =
     let x = growLeft o (h .growing) (h .slices .lowerWords) (h .slices .lowerDeltas) (h .slices .upperWords) (h .slices .upperDeltas) in
     grownTo (x .hasher) (x .grown)
+
+-- what a move leaves in its destination where it fails, with a record of live 0 and the hasher of your choice
+abbrev pub failedTo : Store → (ws ds : List ℕ) → Hasher → Store
+failedTo s ws ds hasher =
+    alone
+    (record {
+      words = wordsBecome (sizeIn ds) (moveFrom s ws ds .to) ws;
+      deltas = deltasBecome (sizeIn ds) (moveFrom s ws ds .to) ds;
+      table = record { hasher = hasher; live = 0 };
+    })

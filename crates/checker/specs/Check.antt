@@ -1,4 +1,4 @@
--- The checker's test, cell by cell. proofs/Sound.antt says that it passes exactly for 01's sound tables.
+-- The checker's test, cell by cell. proofs/Decides.antt says that it passes exactly for 01's sound tables.
 use mathlib.Core.Bool.{Bool, true, false, cond, not, _&&_}
 use Prim.Native.Nat.{ℕ, zero, suc, _+_, _-_, _%_}
 use lib.Dec.{eqb, leb}

@@ -20,7 +20,8 @@ use Rattle.halves.proofs.Checks.{halves-hold}
 use Rattle.growth.specs.Growth.{GrownLeft, growSaid, lowerOf, upperOf, grewFrom, grownBy, growLeft}
 use Rattle.growth.specs.declared.GrowAnswer.{GrowAnswer}
 use Rattle.growthlaws.specs.Grown as checks
-use Rattle.growthlaws.specs.Grown.{Halves, GrowChecked, heldBecome, isCleared, anyMove, grown}
+use Rattle.movelaws.specs.Plain.{heldBecome}
+use Rattle.growthlaws.specs.Grown.{Halves, GrowChecked, isCleared, anyMove, grown}
 use Rattle.growthlaws.proofs.Checks.{grow-checked, passed-shaped, fresh-halves}
 use Rattle.growthlaws.proofs.Moves.{grown-where, grown-used}
 use Rattle.grownlaws.specs.Meets.{lentOn, ruled, Meets, wordsOf, deltasOf}

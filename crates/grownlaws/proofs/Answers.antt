@@ -2,10 +2,10 @@
 use mathlib.Core.List.{List, [], _∷_}
 use mathlib.Core.Logic.{_≢_}
 use mathlib.Core.Path.{_≡_, refl, sym, ap, subst, _∙_}
-use Prim.Native.Nat.{ℕ, suc, _-_, _≤_}
+use Prim.Native.Nat.{ℕ, suc, _+_, _-_, _≤_}
 use native.Mathlib.Omega.{arith}
 use lib.ListN.{length}
-use Rattle.rules.specs.Sizes.{leastLog, greatestLog}
+use Rattle.rules.specs.Sizes.{leastLog, greatestLog, probeLimit}
 use Rattle.rules.specs.Answers.{refused}
 use Rattle.rules.specs.Growing.{inUse}
 use Rattle.laws.specs.Full.{lastFrom}
@@ -19,9 +19,10 @@ use Rattle.growth.specs.declared.GrowSaid.the-variants as says
 use Rattle.growth.specs.declared.GrowAnswer.{GrowAnswer}
 use Rattle.growthlaws.specs.Grown.{halfAfter}
 use Rattle.growthlaws.proofs.Never.{grow-never-4, grow-5-before-moves, sound-never-5}
+use Rattle.growthlaws.proofs.Looked.{grow-looked-most}
 use Rattle.growthlaws.proofs.Moves.{moves-few, grown-where}
 use Rattle.grownlaws.specs.Meets.{lentOn, ruled, Meets}
-use Rattle.grownlaws.proofs.After.{lent-halves, said-is, moves-is, size-is, half-is}
+use Rattle.grownlaws.proofs.After.{lent-halves, said-is, looked-is, moves-is, size-is, half-is}
 
 -- 6 is told as NoRoom alone
 pub no-room-said : (a : GrowSaid) (x : List ℕ) → growSaid a ≡ refused 6 x → a ≡ says.NoRoom
@@ -56,6 +57,10 @@ module _ (s : Four) (g : Growing) (k v : ℕ) (r : GrowAnswer) (s′ : Four) (m 
   -- "so at most 13 moves follow the first": as many as there are sizes above the least
   pub answer-moves-few : r .moves ≤ suc (greatestLog - leastLog)
   answer-moves-few = subst (λ (n : ℕ). n ≤ suc (greatestLog - leastLog)) (sym (moves-is s g k v r s′ m)) (moves-few (lentOn s g) (lent-halves s g) k v)
+
+  -- the last insert walk looks at no more than S cells and 128, S being the size that the record has now
+  pub answer-looked-most : r .looked ≤ r .growing .size + probeLimit
+  answer-looked-most = rw (looked-is s g k v r s′ m, size-is s g k v r s′ m) (grow-looked-most (lentOn s g) (lent-halves s g) k v)
 
   -- "the table is where its last move put it, the record says where": its size is that of the last move, its half the other one after
   -- each

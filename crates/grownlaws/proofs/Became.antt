@@ -14,7 +14,8 @@ use Rattle.moving.specs.Slices.{heldIn, clearHeld, wordsBecome, deltasBecome}
 use Rattle.moving.proofs.Held.{WithinAll, held-changed-all, words-kept-all, deltas-kept-all, fresh-shaped}
 use Rattle.halves.specs.Halves.{ofHalf}
 use Rattle.growth.specs.Growth.{lowerOf, upperOf}
-use Rattle.growthlaws.specs.Grown.{heldBecome, isCleared}
+use Rattle.movelaws.specs.Plain.{heldBecome}
+use Rattle.growthlaws.specs.Grown.{isCleared}
 use Rattle.grownlaws.proofs.Within.{changesOf}
 
 -- ---- slices of C cells

@@ -13,6 +13,7 @@ Still (moved T) = ⊥
 Still noRoom = Unit
 Still broken = Unit
 
+-- what the call says of it; nothing is said of a round that moved (it is not Still)
 abbrev pub turnSaid : TurnEnd → Said
 turnSaid (answered s) = s
 turnSaid (moved T) = refused 6 []

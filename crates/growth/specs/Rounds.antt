@@ -145,7 +145,7 @@ turnTried cells looked live ws ds t =
       spareDeltas = t .deltas;
     }
 
--- a round that starts from these slices
+-- a round that starts from these slices; which half they are is not read in one round
 abbrev pub roundOn : (size live : ℕ) → (ws ds : List ℕ) → Round
 roundOn size live ws ds =
     record {

@@ -4,9 +4,11 @@ pub mod Sizes
 pub mod Rounds
 pub mod Checks
 pub mod Never
+pub mod Looked
 pub mod Moves
 pub mod Left
 pub mod Sound
 pub mod Lookups
 pub mod Worked
+pub mod Marked
 pub mod Eight

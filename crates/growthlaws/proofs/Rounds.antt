@@ -1,5 +1,5 @@
--- The rounds of a growing insert end: every move after the first at least doubles the size, so `rounds` never comes to its last
--- line, and more rounds than it is given change nothing. Assumes nothing.
+-- The rounds of a growing insert end: every move after the first at least doubles the size, so `rounds` never comes to its line
+-- for none left, and more rounds than it is given change nothing. Assumes nothing.
 use mathlib.Core.Bool.{Bool, true, false}
 use mathlib.Core.List.{List}
 use mathlib.Core.Path.{_≡_, refl, sym, ap, _∙_}
@@ -148,7 +148,7 @@ module _ (C null : ℕ) (hashOf : ℕ → ℕ) (clear : Held) (h k v : ℕ) wher
         go false f = round-answers more r f ∙ sym (round-answers left r f)
         go true f = by f (Tried r) refl (tries-all-ways r size)
 
-    -- more rounds than enough change nothing: the last line of `rounds` is never reached
+    -- more rounds than enough change nothing: the line of `rounds` for none left is never reached
     pub rounds-enough : (left more : ℕ) (r : Round) → isSize (r .size) ≡ true → left ≤ more → Enough C null hashOf r left
         → rounds C null hashOf clear h k v more r ≡ rounds C null hashOf clear h k v left r
     rounds-enough zero more r sized l e = let q = enough-one r zero e .1 in absurd (omega arith)

@@ -28,7 +28,7 @@ use Rattle.movelaws.proofs.Finding.{finds-moved}
 use Rattle.growthlaws.specs.Tries.{MovedInto}
 use Rattle.growthlaws.specs.Rounds as ways
 use Rattle.growthlaws.specs.Rounds.{paramsOf, BuiltRound, insertOf, firstOf, RoundWay}
-use Rattle.growthlaws.specs.Grown.{heldBecome}
+use Rattle.movelaws.specs.Plain.{heldBecome}
 use Rattle.growthlaws.proofs.Rounds.{round-way, move-sized}
 use Rattle.growthlaws.proofs.Never.{no-trouble}
 

@@ -6,7 +6,8 @@ use Prim.Native.Nat.{ℕ, _*_, _≤_}
 use Rattle.rules.specs.Sizes.{isSize}
 use Rattle.rules.specs.Cells.{shape, offered, zeroHash}
 use Rattle.rules.specs.Answers.{Outcome}
-use Rattle.rules.specs.Moves.{Held, heldAfter, heldAfterAll, Became, stays, cleared}
+use Rattle.rules.specs.Moves.{Held, heldAfter, Became, stays, cleared}
+use Rattle.movelaws.specs.Plain.{heldBecome}
 use Rattle.rules.specs.Growing.{Half, otherHalf, LentHalves, inUse, GrowOutcome, refusedAt, rounds, mostRounds, start}
 use Rattle.movelaws.specs.Carried.{IsClear}
 use Rattle.growthlaws.specs.Rounds.{firstOf}
@@ -32,11 +33,6 @@ pub data GrowChecked (l : LentHalves) (k v : ℕ) (g : GrowOutcome) : Type 0 whe
       → GrowChecked l k v g
 
 -- ---- the halves after a call
-
--- what a half holds once this became of it
-abbrev pub heldBecome : (clear : Held) → Became → Held → Held
-heldBecome clear (stays l) t = heldAfterAll l t
-heldBecome clear (cleared l) t = heldAfterAll l clear
 
 -- the half was cleared
 abbrev pub isCleared : Became → Bool

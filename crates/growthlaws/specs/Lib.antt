@@ -3,3 +3,4 @@ pub mod Tries
 pub mod Rounds
 pub mod Grown
 pub mod Worked
+pub mod Marked

@@ -37,8 +37,8 @@ abbrev pub firstOf : (null : ℕ) → (hashOf : ℕ → ℕ) → (h k v : ℕ) �
 firstOf null hashOf h k v r =
     firstSize (r .size) (sample (paramsOf null hashOf r) (r .held .cells) (r .held .value) (carriedBy (insertOf null h k v r .said)))
 
--- so many rounds are enough. Before the first move: the least size, doubled in each round after it, passes C. After a move, where
--- every taken cell is live: the table's size, doubled in each round from now on, does.
+-- so many rounds are enough. Before the first move: the least size, doubled once for each round but the first, passes C. After a
+-- move, where every taken cell is live: the table's size, doubled once for each round, passes C.
 pub data Enough (C null : ℕ) (hashOf : ℕ → ℕ) (r : Round) (left : ℕ) : Type 0 where
   first : (n : ℕ) → left ≡ suc n → C < 2 ^ leastLog * 2 ^ n → Enough C null hashOf r left
   later : r .size ≤ C → LiveRound null hashOf r → C < r .size * 2 ^ left → Enough C null hashOf r left

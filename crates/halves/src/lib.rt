@@ -2,7 +2,6 @@
 // Every call is defined for any slices and any record.
 pub mod internal;
 mod parts;
-mod parts_mut;
 mod record;
 
 pub use hashmap::FindAnswer;
@@ -10,8 +9,6 @@ pub use hashmap::FindSaid;
 pub use hashmap::RemoveSaid;
 pub use parts::used_deltas;
 pub use parts::used_words;
-pub use parts_mut::used_deltas_mut;
-pub use parts_mut::used_words_mut;
 pub use record::table;
 pub use record::with_table;
 ghost use mathlib.Core.Path.{_≡_};

@@ -1,4 +1,4 @@
-// The parts: the front of the half in use, as slices. With the table record they are a table for every call on one.
+// The parts: the front of the half in use, as slices. With the table record they are a table for every call that reads one.
 // A part of length 0 is handed back under 1: lengths not those of C cells each for an allowed C, a size not allowed or above C,
 // live above the size.
 ghost use mathlib.Core.Path.{_≡_};

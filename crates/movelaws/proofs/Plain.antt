@@ -111,7 +111,7 @@ module _ (l : Lent) (shaped : Bool) (T : ℕ) (clear : Held) where
 
   -- so that it is a fresh table afterwards
   pub stopped-fresh : (n : ℕ) (x : List ℕ) → move l shaped T clear .ended ≡ stop n x → n ≢ 1 → IsClear (l .params .null) T clear → (old : Held)
-      → Fresh (atSize (l .params) T) (heldBecome old clear (move l shaped T clear .to) .cells) (heldBecome old clear (move l shaped T clear .to) .value) (record { live = 0 })
+      → Fresh (atSize (l .params) T) (heldBecome clear (move l shaped T clear .to) old .cells) (heldBecome clear (move l shaped T clear .to) old .value) (record { live = 0 })
   stopped-fresh n x e d empty old = rw (stopped-clears n x e d) (clear-fresh (atSize (l .params) T) clear empty)
 
   module _ (size : shaped ≡ true → isSize T ≡ true) (empty : shaped ≡ true → IsClear (l .params .null) T clear) (s : SoundTable l) where
@@ -132,7 +132,7 @@ module _ (l : Lent) (shaped : Bool) (T : ℕ) (clear : Held) where
     module _ (c : Counts) (e : move l shaped T clear .ended ≡ all c) (old : Held) where
       -- what the destination holds then
       abbrev dest : Held
-      dest = heldBecome old clear (move l shaped T clear .to)
+      dest = heldBecome clear (move l shaped T clear .to) old
 
       done : MoveDone c
       done = move-done c e
@@ -142,20 +142,20 @@ module _ (l : Lent) (shaped : Bool) (T : ℕ) (clear : Held) where
       plain-counts = moved-counts (l .params) (heldOf l) (l .counts) s T clear (size (done .is-shaped)) (empty (done .is-shaped)) c (done .cells)
 
       -- the new table is sound
-      pub plain-sound : SoundTable (lentMoved l T (heldBecome old clear (move l shaped T clear .to)) c)
+      pub plain-sound : SoundTable (lentMoved l T (heldBecome clear (move l shaped T clear .to) old) c)
       plain-sound =
           rw (done .to) (moved-sound (l .params) (heldOf l) (l .counts) s T clear (size (done .is-shaped)) (empty (done .is-shaped)) c (done .cells))
 
       -- with the same keys and values and no removed cell
-      pub plain-state : (k : ℕ) → stateOf (lentMoved l T (heldBecome old clear (move l shaped T clear .to)) c) k ≡ stateMoved (stateOf l k)
+      pub plain-state : (k : ℕ) → stateOf (lentMoved l T (heldBecome clear (move l shaped T clear .to) old) c) k ≡ stateMoved (stateOf l k)
       plain-state k =
           rw (done .to) (moved-state (l .params) (heldOf l) (l .counts) s T clear (size (done .is-shaped)) (empty (done .is-shaped)) c (done .cells) k)
 
       -- it passes check 1
-      pub plain-shape : shape (lentMoved l T (heldBecome old clear (move l shaped T clear .to)) c) ≡ 0
-      plain-shape = sound-shape (lentMoved l T (heldBecome old clear (move l shaped T clear .to)) c) plain-sound refl
+      pub plain-shape : shape (lentMoved l T (heldBecome clear (move l shaped T clear .to) old) c) ≡ 0
+      plain-shape = sound-shape (lentMoved l T (heldBecome clear (move l shaped T clear .to) old) c) plain-sound refl
 
       -- and a move carries its source's keys to the new table: every find says what it says in the source
-      pub plain-find : Sized l → (k : ℕ) → find (lentMoved l T (heldBecome old clear (move l shaped T clear .to)) c) k .said ≡ find l k .said
+      pub plain-find : Sized l → (k : ℕ) → find (lentMoved l T (heldBecome clear (move l shaped T clear .to) old) c) k .said ≡ find l k .said
       plain-find sized k =
           find-alike l (lentMoved l T dest c) sized (λ x. size (done .is-shaped)) s plain-sound (done .shaped-source) plain-shape refl k (plain-state k)

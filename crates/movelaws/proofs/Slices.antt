@@ -100,7 +100,7 @@ module _ (ws ds : List ℕ) (t : Table) (tws tds : List ℕ) where
     -- what it leaves, lent again, is the new table
     pub lent-after-move : lentTo ws ds t tws tds c
         ≡ lentMoved (lent ws ds t) (sizeIn tds)
-        (heldBecome (heldIn tws tds) (clearHeld (sizeIn tds)) (moveOn ws ds t tws tds .to)) c
+        (heldBecome (clearHeld (sizeIn tds)) (moveOn ws ds t tws tds .to) (heldIn tws tds)) c
     lent-after-move =
         let d = move-done (lent ws ds t) (isShaped tws tds) T (clearHeld T) c e in
         let x = size (d .is-shaped) in

@@ -5,10 +5,10 @@ use Rattle.rules.specs.Cells.{Counts, Lent}
 use Rattle.rules.specs.Moves.{Held, heldAfterAll, Became, stays, cleared}
 use Rattle.movelaws.specs.Movable.{atSize}
 
--- by what became of it: what it held before, or what it holds once cleared, with the changes
-abbrev pub heldBecome : (old clear : Held) → Became → Held
-heldBecome old clear (stays l) = heldAfterAll l old
-heldBecome old clear (cleared l) = heldAfterAll l clear
+-- what a table or a half holds once this became of it: what it held before, or what it holds once cleared, with the changes
+abbrev pub heldBecome : (clear : Held) → Became → Held → Held
+heldBecome clear (stays l) t = heldAfterAll l t
+heldBecome clear (cleared l) t = heldAfterAll l clear
 
 abbrev pub heldOf : Lent → Held
 heldOf l = record { cells = l .cells; value = l .value }

@@ -11,14 +11,10 @@ use lib.Dec.{eqb}
 use lib.ListN.{length}
 use Rattle.rules.specs.Cells.{Params, Cells, Counts, Lent, isLive}
 use Rattle.rules.specs.Sound.{Taken, Sound, one, count}
-use Rattle.sound.specs.State.{State, liveCell, stateBelow, stateIn, stateOf, SoundTable}
+use Rattle.sound.specs.State.{State, liveCell, IsLive, stateBelow, stateIn, stateOf, SoundTable}
 use Rattle.sound.proofs.States.{state-of-cell, state-live}
 use Rattle.order.specs.Number.{Distinct, Lists}
 use Rattle.order.proofs.Number.{one-number, lists-same}
-
--- the state is that of a live key
-abbrev pub IsLive : State → Type 0
-IsLive s = (v : ℕ) × (s ≡ liveCell v)
 
 -- a live cell is taken and its value is not null
 live-both : (p : Params) (cs : Cells) (value : ℕ → ℕ) (i : ℕ) → isLive p cs value i ≡ true → Taken cs i × (value i ≢ p .null)

@@ -49,7 +49,7 @@ pub absent-after-last-link : find (table (1 ∷ 2 ∷ 3 ∷ 4 ∷ 5 ∷ 6 ∷ 7 
 unfolding find findIn walk follow
 absent-after-last-link = refl
 
--- a removed key is Absent to find and remove
+-- a removed key is Absent to find
 pub removed-is-absent : find (table (0 ∷ 1 ∷ []) (99 ∷ 99 ∷ []) [] [] 0) 1 ≡ says absent 1
 unfolding find findIn walk follow
 removed-is-absent = refl
@@ -88,7 +88,7 @@ pub null-before-zero-hash : insert (table [] [] [] [] 0) 0 99 ≡ leave (refused
 unfolding insert
 null-before-zero-hash = refl
 
--- the new cell's own deltas are left as they are, and the tail's second delta takes the distance
+-- the tail's second delta takes the distance, and no other delta is written
 pub link-at-tail : insert (table (8 ∷ 16 ∷ 3 ∷ []) (5 ∷ 6 ∷ 7 ∷ []) (1 ∷ []) [] 3) 24 4
     ≡ record { said = new; looked = 4; counts = record { live = 4 }; change = fill 3 24 24 4 (asSecond 1 2) }
 unfolding insert insertStored insertSeen settle walk follow probe

@@ -51,12 +51,13 @@ remove l k =
 
 -- ---- insert
 
--- the positions that an insert past its checks looks at: an empty home alone, else the walk's and the probe's
+-- the positions that a probe looks at, if the walk stops at a tail
 abbrev pub probed : (S : ℕ) → Cells → Stop → List ℕ
 probed S cs (met q) = []
 probed S cs (tail q) = probeFrom S cs q .seen
 probed S cs broken = []
 
+-- the positions that an insert past its checks looks at: an empty home alone, else the walk's and the probe's
 unfoldable pub insertSeen : (S : ℕ) → Cells → (h k : ℕ) → List ℕ
 insertSeen S cs h k =
     let w = walk S cs h k in

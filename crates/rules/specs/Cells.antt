@@ -32,10 +32,7 @@ pub record Lent : Type 0 where
 abbrev pub isTaken : Cells → ℕ → Bool
 isTaken cs i = not (eqb (cs .hash i) 0)
 
--- removed: taken, with the value null; live: taken and not removed
-abbrev pub isRemoved : Params → Cells → (ℕ → ℕ) → ℕ → Bool
-isRemoved p cs value i = isTaken cs i && eqb (value i) (p .null)
-
+-- live: taken, and the value is not null; a taken cell that is not live is removed
 abbrev pub isLive : Params → Cells → (ℕ → ℕ) → ℕ → Bool
 isLive p cs value i = isTaken cs i && not (eqb (value i) (p .null))
 

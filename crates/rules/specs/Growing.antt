@@ -118,7 +118,7 @@ answered r o =
       moves = [];
     }
 
--- a refusal after Full: the table stays where it is
+-- a refusal: the table stays where it is
 abbrev pub refusedAt : Round → (n looked : ℕ) → (spare : Became) → GrowOutcome
 refusedAt r n looked spare =
     record {
@@ -189,7 +189,7 @@ afterTries r looked clear t noRoom next = refusedAt r 6 looked (t .spare)
 afterTries r looked clear t broken next = refusedAt r 5 looked (t .spare)
 
 -- rounds: the insert; after Full the tries; after a move the insert again. No more than `left` of them: more are never needed
--- (crates/growthlaws/proofs/Rounds.antt), so that what the last line says is never reached.
+-- (crates/growthlaws/proofs/Rounds.antt), so that the line for none left is never reached.
 unfoldable pub rounds : (C null : ℕ) → (hashOf : ℕ → ℕ) → (clear : Held) → (h k v left : ℕ) → Round → GrowOutcome
 rounds C null hashOf clear h k v zero r = refusedAt r 6 0 (r .spare)
 rounds C null hashOf clear h k v (suc left) r =
@@ -200,7 +200,7 @@ rounds C null hashOf clear h k v (suc left) r =
     (afterTries r (o .looked) clear t (t .end) (λ n. rounds C null hashOf clear h k v left n))
     (answered r o)
 
--- a move to each size, and one round more
+-- more than a move to each size and the last round
 abbrev pub mostRounds : ℕ
 mostRounds = suc (suc sizes)
 

@@ -19,9 +19,9 @@ isPower (suc n) s = eqb s (2 ^ (n + leastLog)) || isPower n s
 unfoldable pub isSize : ℕ → Bool
 isSize s = isPower (suc greatestLog - leastLog) s
 
--- P, the number of positions that a probe looks at: no more than 128, and no more than the cells past the tail
 abbrev pub probeLimit : ℕ
 probeLimit = 128
 
+-- P, the number of positions that a probe looks at: no more than 128, and no more than the cells past the tail
 abbrev pub window : ℕ → ℕ
 window S = min probeLimit (S - 1)
