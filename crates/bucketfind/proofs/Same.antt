@@ -1,5 +1,4 @@
--- The lookup over a slice of buckets is find on the two flat slices that hold the same buckets, and nothing else satisfies its contract.
--- Assumes nothing.
+-- The lookup over a slice of buckets is find on the two flat slices that hold the same buckets. Assumes nothing.
 use mathlib.Core.Bool.{true}
 use mathlib.Core.List.{List}
 use mathlib.Core.Path.{_≡_, sym, ap, _∙_}
@@ -8,9 +7,6 @@ use Rattle.rules.specs.Cells.{Lent}
 use Rattle.rules.specs.Calls.{find}
 use Rattle.cells.specs.Layout.{isShaped, lent}
 use Rattle.cells.specs.declared.Table.{Table}
-use Rattle.hashmap.specs.Answers.{findAnswer}
-use Rattle.hashmap.specs.declared.FindAnswer.{FindAnswer}
-use Rattle.hashmap.proofs.OneOutcome as hashmap
 use Rattle.buckets.specs.declared.Bucket.{Bucket}
 use Rattle.bucketfind.specs.Slice.{bucketsLent, flatWords, flatDeltas, bucketsOf}
 use Rattle.bucketfind.proofs.Flat.{flat-lent}
@@ -20,14 +16,6 @@ module _ (bs : List Bucket) (t : Table) (k : ℕ) where
   -- the rule gives the same on both, for any buckets, sound or not, refusals and counts included
   pub find-same : find (bucketsLent bs t) k ≡ find (lent (flatWords bs) (flatDeltas bs) t) k
   find-same = ap (λ (l : Lent). find l k) (sym (flat-lent bs t))
-
-  -- so an answer of bucketfind::find on the buckets and one of hashmap::find on the flat slices, by their contracts, are one
-  pub find-answers-same : (a b : FindAnswer) → findAnswer a ≡ find (bucketsLent bs t) k → findAnswer b ≡ find (lent (flatWords bs) (flatDeltas bs) t) k → a ≡ b
-  find-answers-same a b ea eb = hashmap.find-one-outcome a b (find (bucketsLent bs t) k) ea (eb ∙ sym find-same)
-
-  -- no second answer satisfies the contract
-  pub find-one-outcome : (a b : FindAnswer) → findAnswer a ≡ find (bucketsLent bs t) k → findAnswer b ≡ find (bucketsLent bs t) k → a ≡ b
-  find-one-outcome a b ea eb = hashmap.find-one-outcome a b (find (bucketsLent bs t) k) ea eb
 
 -- and on the buckets of two flat slices of an allowed shape it answers as find on these slices
 pub find-of-flat : (ws ds : List ℕ) (t : Table) (k : ℕ) → isShaped ws ds ≡ true → find (bucketsLent (bucketsOf ws ds) t) k ≡ find (lent ws ds t) k

@@ -2,4 +2,3 @@ pub mod Lists
 pub mod Stores
 pub mod Reading
 pub mod Putting
-pub mod OneOutcome

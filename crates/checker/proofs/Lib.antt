@@ -2,4 +2,3 @@ pub mod Chains
 pub mod Meets
 pub mod Counting
 pub mod Decides
-pub mod OneOutcome

@@ -16,10 +16,10 @@ use Rattle.moving.specs.Slices.{wordsBecome, deltasBecome}
 use Rattle.halves.specs.Halves.{halfOf, ofHalf}
 use Rattle.halves.specs.Answers.{Four}
 use Rattle.halves.specs.declared.Growing.{Growing}
+use Rattle.halves.proofs.Which.{unhalf, half-back}
 use Rattle.growth.specs.Growth.{growSaid, lowerOf, upperOf}
 use Rattle.growth.specs.declared.GrowSaid.the-variants as says
 use Rattle.growth.specs.declared.GrowAnswer.{GrowAnswer}
-use Rattle.growth.proofs.OneOutcome.{unhalf, half-back}
 use Rattle.growthlaws.specs.Rounds as ways
 use Rattle.growthlaws.specs.Rounds.{RoundWay}
 use Rattle.growthlaws.specs.Grown.{Halves, firstTry}

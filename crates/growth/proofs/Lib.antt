@@ -6,4 +6,3 @@ pub mod Going
 pub mod Sides
 pub mod Loop
 pub mod Checked
-pub mod OneOutcome

@@ -7,4 +7,4 @@ pub mod Cleared
 pub mod AsTable
 pub mod Fresh
 pub mod Refusals
-pub mod OneOutcome
+pub mod Which

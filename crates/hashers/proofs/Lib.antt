@@ -3,4 +3,3 @@ pub mod Mixing
 pub mod Bijection
 pub mod KeyHash
 pub mod Vectors
-pub mod OneOutcome

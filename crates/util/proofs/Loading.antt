@@ -9,9 +9,7 @@ use lib.Arith.{digits-lt, lt-one}
 use lib.Dec.{lit<}
 use lib.ListN.{length, getD, drop, length-drop}
 use lib.Seq.{drop-cons, getD-drop}
-use Rattle.util.specs.Bytes.{number, bytesOf, Said, is, refused, said}
-use Rattle.util.specs.declared.Loaded.{Loaded}
-use Rattle.util.specs.declared.Loaded.the-variants.{Number, Length}
+use Rattle.util.specs.Bytes.{number, bytesOf}
 
 -- n bytes make a number below 256 ^ n
 number-lt : (n : ℕ) (s : List ℕ) → length s ≤ n → ((k : ℕ) → getD s k 0 < 256) → number s < 256 ^ n
@@ -42,15 +40,3 @@ pub length-bytesOf : (n x : ℕ) → length (bytesOf n x) ≡ n
 unfolding bytesOf
 length-bytesOf zero x = refl
 length-bytesOf (suc n) x = ap suc (length-bytesOf n (x / 256))
-
--- one outcome: the answer is known by what it says
-abbrev unsaid : Said → Loaded
-unsaid (is n) = Number n
-unsaid (refused k) = Length
-
-back : (a : Loaded) → unsaid (said a) ≡ a
-back (Number n) = refl
-back Length = refl
-
-pub load-one-outcome : (a b : Loaded) (s : Said) → said a ≡ s → said b ≡ s → a ≡ b
-load-one-outcome a b s ea eb = sym (back a) ∙ ap unsaid (ea ∙ sym eb) ∙ back b
