@@ -1,23 +1,25 @@
 -- Every call, on a table alone or in two halves, is a step by its event. Assumes nothing.
 use mathlib.Core.Logic.{inl, inr}
 use mathlib.Core.Path.{_≡_, refl, sym, ap, subst}
-use Prim.Native.Nat.{ℕ, _≤_}
+use Prim.Native.Nat.{ℕ, _≤_, _<_}
 use Rattle.rules.specs.Cells.{Lent, shape}
 use Rattle.rules.specs.Answers.{Outcome}
 use Rattle.rules.specs.Calls as rule
 use Rattle.rules.specs.Cursor.{setValue}
-use Rattle.rules.specs.Entries.{Entry, Action, useEntry}
+use Rattle.rules.specs.Entries.{Place, Entry, Action, useShape, useEntry}
 use Rattle.rules.specs.Growing as growing
 use Rattle.rules.specs.Growing.{LentHalves, inUse}
 use Rattle.laws.specs.Ways as ways
 use Rattle.laws.specs.Ways.{InsertChecked, RemoveChecked}
 use Rattle.laws.proofs.Ways.{insert-checked, remove-checked}
-use Rattle.laws.proofs.Within.{insert-within, remove-within}
+use Rattle.laws.proofs.Within.{stored-within, insert-within, remove-within}
 use Rattle.sound.specs.State.{after, SoundTable, Sized}
 use Rattle.sound.proofs.Positions.{size-wraps}
 use Rattle.sound.proofs.Slices.{lent-sized, lent-after-insert, lent-after-remove}
-use Rattle.entrylaws.specs.Sound.{UseAs, checked, as-find, as-insert, as-remove}
-use Rattle.entrylaws.proofs.OnSound.{sound-use}
+use Rattle.entrylaws.specs.Uses as uses
+use Rattle.entrylaws.specs.Uses.{Usable, UseWay}
+use Rattle.entrylaws.proofs.Ways.{use-way}
+use Rattle.entrylaws.proofs.OnSound.{use-shaped, use-below}
 use Rattle.entrylaws.proofs.ByKey.{lent-after-use}
 use Rattle.walked.specs.Ways as sets
 use Rattle.walked.specs.Ways.{SetWay}
@@ -44,7 +46,7 @@ module _ (l : Lent) (sized : Sized l) where
   some : shape l ≡ 0 → 1 ≤ l .params .S
   some e = size-wraps (l .params .S) (sized e) .some
 
-  insert-placed : (k v : ℕ) → Placed l (rule.insert l k v)
+  pub insert-placed : (k v : ℕ) → Placed l (rule.insert l k v)
   insert-placed k v = go _ (insert-checked l k v) refl
     where
       go : (o : Outcome) → InsertChecked l k v o → rule.insert l k v ≡ o → Placed l o
@@ -53,7 +55,7 @@ module _ (l : Lent) (sized : Sized l) where
       go o (ways.by2 a b d e) q = inl (ap (λ (o : Outcome). o .change) e)
       go o (ways.past a b d e) q = inr (a, rw (← q) (insert-within l some k v))
 
-  remove-placed : (k : ℕ) → Placed l (rule.remove l k)
+  pub remove-placed : (k : ℕ) → Placed l (rule.remove l k)
   remove-placed k = go _ (remove-checked l k) refl
     where
       go : (o : Outcome) → RemoveChecked l k o → rule.remove l k ≡ o → Placed l o
@@ -61,16 +63,26 @@ module _ (l : Lent) (sized : Sized l) where
       go o (ways.by2 a d e) q = inl (ap (λ (o : Outcome). o .change) e)
       go o (ways.past a d e) q = inr (a, rw (← q) (remove-within l some k))
 
-  use-placed : SoundTable l → (e : Entry) (a : Action) → Placed l (useEntry l e a)
-  use-placed s e a = go _ (sound-use l sized s e a)
+  pub use-placed : (e : Entry) (a : Action) → Placed l (useEntry l e a)
+  use-placed e a = go _ (use-way l e a)
     where
-      go : (o : Outcome) → UseAs l e a o → Placed l o
-      go o (checked n m q) = inl (ap (λ (o : Outcome). o .change) q)
-      go o (as-find v r x q) = inl (ap (λ (o : Outcome). o .change) q)
-      go o (as-insert v p x q) = rw q (insert-placed (e .key) v)
-      go o (as-remove v p x y q) = rw q (remove-placed (e .key))
+      inside : (i : ℕ) → Usable l e a i → i < l .params .S
+      inside i u = use-below l i (subst (λ (x : Place). useShape l x ≡ 0) (u .at) (u .past .shape))
 
-  set-placed : (i v : ℕ) → Placed l (setValue l i v)
+      go : (o : Outcome) → UseWay l e a o → Placed l o
+      go o (uses.by1 x q) = inl (ap (λ (o : Outcome). o .change) q)
+      go o (uses.by3 x y q) = inl (ap (λ (o : Outcome). o .change) q)
+      go o (uses.by2 x y z q) = inl (ap (λ (o : Outcome). o .change) q)
+      go o (uses.by7 x y q) = inl (ap (λ (o : Outcome). o .change) q)
+      go o (uses.reads i u x q) = inl (ap (λ (o : Outcome). o .change) q)
+      go o (uses.replaces i v u x q) = inr (use-shaped l (e .place) (u .past .shape), rw q (inside i u))
+      go o (uses.removes i u x y q) = inr (use-shaped l (e .place) (u .past .shape), rw q (inside i u))
+      go o (uses.under i u x y q) = inl (ap (λ (o : Outcome). o .change) q)
+      go o (uses.inserts v u x q) =
+          let p = use-shaped l (e .place) (u .past .shape) in
+          inr (p, rw q (stored-within (l .params .S) (l .params .null) (l .cells) (l .value) (l .counts) (l .params .hashOf (e .key)) (e .key) (some p) v))
+
+  pub set-placed : (i v : ℕ) → Placed l (setValue l i v)
   set-placed i v = go _ (set-way l i v)
     where
       go : (o : Outcome) → SetWay l i v o → Placed l o
@@ -102,7 +114,7 @@ remove-again (halved h) k = again h _ (remove-placed (tableIn (halved h)) (sized
 
 use-again : (s : Store) → SoundTable (tableIn s) → (e : Entry) (a : Action) → Again s (useEntry (tableIn s) e a)
 use-again (alone m) t e a = lent-after-use (m .words) (m .deltas) (m .table) t e a
-use-again (halved h) t e a = again h _ (use-placed (tableIn (halved h)) (sized-in (halved h)) t e a)
+use-again (halved h) t e a = again h _ (use-placed (tableIn (halved h)) (sized-in (halved h)) e a)
 
 set-again : (s : Store) (i v : ℕ) → Again s (setValue (tableIn s) i v)
 set-again (alone m) i v = lent-after-set (m .words) (m .deltas) (m .table) i v

@@ -11,3 +11,5 @@ pub mod MovedTo
 pub mod Calls
 pub mod Live
 pub mod Worked
+pub mod Local
+pub mod Parts

@@ -4,5 +4,6 @@ pub mod Steps
 pub mod Events
 pub mod Stores
 pub mod Calls
+pub mod Parts
 pub mod Starts
 pub mod Worked

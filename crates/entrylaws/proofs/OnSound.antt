@@ -36,7 +36,7 @@ use-shaped l at e = go (l .shaped && leb (l .counts .live) (l .params .S)) (belo
     go true y e = refl
     go false y e = e
 
-use-below : (l : Lent) (i : ℕ) → useShape l (occupied i) ≡ 0 → i < l .params .S
+pub use-below : (l : Lent) (i : ℕ) → useShape l (occupied i) ≡ 0 → i < l .params .S
 use-below l i e = go (l .shaped && leb (l .counts .live) (l .params .S)) (ltb i (l .params .S)) refl e
   where
     go : (x y : Bool) → ltb i (l .params .S) ≡ y → cond {A = ℕ} (x && y) 0 1 ≡ 0 → i < l .params .S

@@ -44,7 +44,7 @@ module _ {S : ℕ} {ws ds : List ℕ} (s : Shaped S ws ds) where
   unfolding isShaped
   part-shaped = rw (part-size, s .size, words-length, deltas-length, eq-eqb (3 * S) (3 * S) refl, eq-eqb (2 * S) (2 * S) refl)
 
-  part-is : (t : Table) → lent (take (3 * S) ws) (take (2 * S) ds) t ≡ tableOf S (take (3 * S) ws) (take (2 * S) ds) t
+  pub part-is : (t : Table) → lent (take (3 * S) ws) (take (2 * S) ds) t ≡ tableOf S (take (3 * S) ws) (take (2 * S) ds) t
   part-is t =
       λ i. record {
         shaped = part-shaped i;
@@ -55,7 +55,7 @@ module _ {S : ℕ} {ws ds : List ℕ} (s : Shaped S ws ds) where
       }
 
   -- they hold the same cells
-  part-alike : Alike S (view (take (3 * S) ws) (take (2 * S) ds)) (view ws ds) (valueIn (take (3 * S) ws)) (valueIn ws)
+  pub part-alike : Alike S (view (take (3 * S) ws) (take (2 * S) ds)) (view ws ds) (valueIn (take (3 * S) ws)) (valueIn ws)
   part-alike =
       let f = size-fours S (s .size) in
       record {
