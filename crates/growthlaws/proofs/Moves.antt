@@ -12,9 +12,8 @@ use Rattle.rules.specs.Sizes.{isSize, leastLog, greatestLog}
 use Rattle.rules.specs.Answers.{Change}
 use Rattle.rules.specs.Moves.{Held, Became, stays, cleared}
 use Rattle.rules.specs.Growing.{otherHalf, LentHalves, Round, GrowOutcome, andThen, withMove, roundAfter, rounds, mostRounds, start, grow}
-use Rattle.steps.proofs.Sizes.{size-least, size-greatest}
+use Rattle.steps.proofs.Sizes.{size-least, size-greatest, log-least}
 use Rattle.laws.specs.Full.{lastFrom}
-use Rattle.sizing.proofs.Sizes.{log-least}
 use Rattle.movelaws.specs.Carried.{IsClear}
 use Rattle.growthlaws.specs.Rounds as ways
 use Rattle.growthlaws.specs.Rounds.{LiveRound, insertOf, RoundWay}

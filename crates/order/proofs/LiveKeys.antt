@@ -12,18 +12,9 @@ use lib.ListN.{length}
 use Rattle.rules.specs.Cells.{Params, Cells, Counts, Lent, isLive}
 use Rattle.rules.specs.Sound.{Taken, Sound, one, count}
 use Rattle.sound.specs.State.{State, liveCell, IsLive, stateBelow, stateIn, stateOf, SoundTable}
-use Rattle.sound.proofs.States.{state-of-cell, state-live}
+use Rattle.sound.proofs.States.{state-of-cell, state-live, live-both}
 use Rattle.order.specs.Number.{Distinct, Lists}
 use Rattle.order.proofs.Number.{one-number, lists-same}
-
--- a live cell is taken and its value is not null
-live-both : (p : Params) (cs : Cells) (value : ℕ → ℕ) (i : ℕ) → isLive p cs value i ≡ true → Taken cs i × (value i ≢ p .null)
-live-both p cs value i e = go (eqb (cs .hash i) 0) refl (eqb (value i) (p .null)) refl
-  where
-    go : (a : Bool) → eqb (cs .hash i) 0 ≡ a → (b : Bool) → eqb (value i) (p .null) ≡ b → Taken cs i × (value i ≢ p .null)
-    go true ea b eb = let z : _≡_ {A = ℕ} 0 1 = cc in absurd (omega arith)
-    go false ea true eb = let z : _≡_ {A = ℕ} 0 1 = cc in absurd (omega arith)
-    go false ea false eb = (eqb-false (cs .hash i) 0 ea, eqb-false (value i) (p .null) eb)
 
 module _ (p : Params) (cs : Cells) (value : ℕ → ℕ) where
   -- the keys of the live cells below n

@@ -13,10 +13,9 @@ use Rattle.rules.specs.Cells.{Params, Cells, Counts, isLive}
 use Rattle.rules.specs.Walk.{on}
 use Rattle.rules.specs.Sound.{count, LiveCounts}
 use Rattle.rules.specs.Growth.{sampled, sampleStart, sample}
-use Rattle.steps.proofs.Sizes.{size-power}
+use Rattle.steps.proofs.Sizes.{size-power, log-least}
 use Rattle.cells.proofs.Shapes.{cell-lt}
 use Rattle.sound.proofs.Counts.{count-same, count-most}
-use Rattle.sizing.proofs.Sizes.{log-least}
 use Rattle.sizing.proofs.Repeats.{Repeats, rounds, turned}
 
 -- 2 ^ 64 is a multiple of the size: a wrapped position has the cell of the whole sum

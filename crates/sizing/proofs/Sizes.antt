@@ -6,24 +6,16 @@ use Prim.Native.Nat.{ℕ, suc, _*_, _/_, _^_, _≤_, _<_, max}
 use native.Mathlib.Decide.{decLe}
 use native.Mathlib.Nat.{eq-zero-or-pos, mul-le-mul-left, mul-le-mul-right, le-trans, pow-suc, mul-comm}
 use native.Mathlib.Omega.{arith}
-use lib.Pow.{pow-mono, pow-lt}
+use lib.Pow.{pow-mono}
 use Rattle.util.specs.Power.{roundUp}
 use Rattle.util.proofs.Powers.{round-none, round-is, round-least}
 use Rattle.rules.specs.Sizes.{isSize, leastLog, greatestLog}
 use Rattle.rules.specs.Growth.{sampled, firstSize}
-use Rattle.steps.proofs.Sizes.{size-power, size-least, size-greatest}
+use Rattle.steps.proofs.Sizes.{size-power, size-least, size-greatest, log-least}
 
 pub first-size-least : (S n : ℕ) → 2 ^ leastLog ≤ firstSize S n
 unfolding firstSize
 first-size-least S n = omega arith
-
--- a power of two that is at most another has the smaller logarithm
-pub log-least : (a k : ℕ) → 2 ^ a ≤ 2 ^ k → a ≤ k
-log-least a k h = go (decLe a k)
-  where
-    go : Dec (a ≤ k) → a ≤ k
-    go (yes l) = l
-    go (no n) = let t : 2 ^ k < 2 ^ a = pow-lt (omega arith) in absurd (omega arith)
 
 -- the greater of the least size and a power of two
 greater : (m top : ℕ) → leastLog ≤ top → m ≤ top → (k : ℕ) × (max (2 ^ leastLog) (2 ^ m) ≡ 2 ^ k) × (leastLog ≤ k) × (k ≤ top)

@@ -94,9 +94,9 @@ bare : (n s : ℕ) → s ≤ n → 0 < s → bitAnd s (s - 1) ≡ 0 → Two s
 bare zero s l p e = absurd (omega arith)
 bare (suc n) s l p e = one-digit s (s % 2) refl p (bare n (s / 2) (omega arith)) e
 
--- a power of two between two powers has its logarithm between theirs
-log-at-least : (a k : ℕ) → 2 ^ a ≤ 2 ^ k → a ≤ k
-log-at-least a k h = go (decLe a k)
+-- a power of two that is at most another has the smaller logarithm
+pub log-least : (a k : ℕ) → 2 ^ a ≤ 2 ^ k → a ≤ k
+log-least a k h = go (decLe a k)
   where
     go : Dec (a ≤ k) → a ≤ k
     go (yes p) = p
@@ -106,8 +106,8 @@ size-bits : (s : ℕ) → 2 ^ leastLog ≤ s → s ≤ 2 ^ greatestLog → bitAn
 unfolding isSize
 size-bits s l h e =
     let t = bare s s (le-refl s) (omega arith) e in
-    let low : leastLog ≤ t .log = log-at-least leastLog (t .log) (subst (λ (n : ℕ). 2 ^ leastLog ≤ n) (t .is) l) in
-    let high : t .log ≤ greatestLog = log-at-least (t .log) greatestLog (subst (λ (n : ℕ). n ≤ 2 ^ greatestLog) (t .is) h) in
+    let low : leastLog ≤ t .log = log-least leastLog (t .log) (subst (λ (n : ℕ). 2 ^ leastLog ≤ n) (t .is) l) in
+    let high : t .log ≤ greatestLog = log-least (t .log) greatestLog (subst (λ (n : ℕ). n ≤ 2 ^ greatestLog) (t .is) h) in
     subst (λ (n : ℕ). isPower (suc greatestLog - leastLog) n ≡ true) (sym (t .is)) (among (suc greatestLog - leastLog) (t .log) low (omega arith))
 
 bits-size : (s : ℕ) → isSize s ≡ true → bitAnd s (s - 1) ≡ 0

@@ -15,19 +15,10 @@ use Rattle.laws.specs.Left.{Leaves}
 use Rattle.sound.specs.State.{liveCell, stateWith, stateOf, after, SoundTable}
 use Rattle.sound.proofs.Filling.{changed-own}
 use Rattle.sound.proofs.Keeping.{setting-keeps-sound}
-use Rattle.sound.proofs.States.{state-live, state-of-cell, stored-others}
+use Rattle.sound.proofs.States.{state-live, state-of-cell, stored-others, live-both}
 use Rattle.walked.specs.Ways as ways
 use Rattle.walked.specs.Ways.{NotLive, SetWay, Sets}
 use Rattle.walked.proofs.Ways.{set-way}
-
--- a live cell is taken, and has a value
-pub live-has : (p : Params) (cs : Cells) (value : ℕ → ℕ) (i : ℕ) → isLive p cs value i ≡ true → Taken cs i × (value i ≢ p .null)
-live-has p cs value i t = go (eqb (cs .hash i) 0) (eqb (value i) (p .null)) refl refl t
-  where
-    go : (a b : Bool) → eqb (cs .hash i) 0 ≡ a → eqb (value i) (p .null) ≡ b → not a && not b ≡ true → Taken cs i × (value i ≢ p .null)
-    go true b ea eb t = let z : _≡_ {A = ℕ} 0 1 = cc in absurd (omega arith)
-    go false true ea eb t = let z : _≡_ {A = ℕ} 0 1 = cc in absurd (omega arith)
-    go false false ea eb t = (eqb-false _ _ ea, eqb-false _ _ eb)
 
 module _ (l : Lent) (i v : ℕ) where
   -- Replaced exactly where the checks let it past and the cell is live; with the value that was there
@@ -121,14 +112,14 @@ module _ (l : Lent) (i v : ℕ) where
         go o (ways.by3 a u n e) = rw e s
         go o (ways.lacks a u n t e) = rw e s
         go o (ways.sets a u n t e) =
-            let h = live-has (l .params) (l .cells) (l .value) i t in
+            let h = live-both (l .params) (l .cells) (l .value) i t in
             rw e (setting-keeps-sound (l .params) (l .cells) (l .value) (l .counts) s i u (h .0) (h .1) v n)
 
     -- where it replaces, the cell's key was live with the old value, and is live with the new one
     pub set-own-before : (old : ℕ) → setValue l i v .said ≡ replaced old → stateOf l (l .cells .key i) ≡ liveCell old
     set-own-before old q =
         let r = set-replaced-exactly old .0 q in
-        let h = live-has (l .params) (l .cells) (l .value) i (r .live) in
+        let h = live-both (l .params) (l .cells) (l .value) i (r .live) in
         state-of-cell (l .params) (l .cells) (l .value) (l .counts) s (l .cells .key i) i (r .below) (h .0) refl
         ∙ state-live (l .params .null) (l .value i) (h .1) ∙ ap liveCell (sym (r .was))
 
@@ -141,7 +132,7 @@ module _ (l : Lent) (i v : ℕ) where
         go o (ways.by3 a u n e) q r = let z : _≡_ {A = ℕ} 0 1 = cc in absurd (omega arith)
         go o (ways.lacks a u n t e) q r = let z : _≡_ {A = ℕ} 0 1 = cc in absurd (omega arith)
         go o (ways.sets a u n t e) q r =
-            let h = live-has (l .params) (l .cells) (l .value) i t in
+            let h = live-both (l .params) (l .cells) (l .value) i t in
             let r = rw e at r in
             rw e
             (state-of-cell (l .params) (l .cells) _ (l .counts) r (l .cells .key i) i u (h .0) refl
