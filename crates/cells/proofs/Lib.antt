@@ -1,5 +1,6 @@
 pub mod Shapes
 pub mod Doing
+pub mod Placing
 pub mod Tails
 pub mod Clearing
 pub mod Views

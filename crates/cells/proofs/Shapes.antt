@@ -10,7 +10,7 @@ use lib.Dec.{eqb, leb}
 use lib.ListN.{length}
 use Rattle.rules.specs.Sizes.{isSize}
 use Rattle.steps.proofs.Sizes.{size-least, size-fours}
-use Rattle.cells.specs.Layout.{Shaped, isShaped, sizeIn, firstAt, secondAt}
+use Rattle.cells.specs.Layout.{Shaped, isShaped, sizeIn, firstAt, secondAt, hashIn}
 
 -- cell i of S cells
 pub words-hold : (S : ℕ) (ws : List ℕ) (i : ℕ) → 3 * S ≤ length ws → i < S → 3 * i + 2 < length ws
@@ -29,6 +29,10 @@ module _ {S : ℕ} {ws ds : List ℕ} (s : Shaped S ws ds) where
 
   pub in-deltas : (x : ℕ) {i : ℕ} → i ≡ x % S → secondAt i < length ds
   in-deltas x {i} e = deltas-hold S ds i (s .size) (s .deltas) (cell-lt S x i (s .size) e)
+
+-- a cell whose hash was read and is not 0
+pub taken-there : (ws : List ℕ) {j i x : ℕ} → i ≡ j → x ≡ hashIn ws i → (x ≡ 0 → ⊥) → hashIn ws j ≡ 0 → ⊥
+taken-there ws e q n z = n (q ∙ ap (hashIn ws) e ∙ z)
 
 -- ---- what check 1 shows
 

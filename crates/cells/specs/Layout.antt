@@ -1,5 +1,5 @@
 -- The layout of 01's Memory section: how the two lent slices hold the cells, and what a change of the cells is on them.
-use mathlib.Core.Bool.{Bool, true, _&&_}
+use mathlib.Core.Bool.{Bool, true, not, _&&_}
 use mathlib.Core.List.{List, [], _∷_}
 use mathlib.Core.Path.{_≡_}
 use Prim.Native.Nat.{ℕ, zero, suc, _+_, _*_, _/_, _%_, _≤_}
@@ -37,6 +37,10 @@ valueIn ws i = getD ws (3 * i + 2) 0
 
 abbrev pub holdsIn : List ℕ → ℕ → ℕ → ℕ → Bool
 holdsIn ws i h k = eqb (hashIn ws i) h && eqb (keyIn ws i) k
+
+-- a cell is taken, and its value is not null
+abbrev pub liveIn : List ℕ → ℕ → Bool
+liveIn ws i = not (eqb (hashIn ws i) 0) && not (eqb (valueIn ws i) null)
 
 abbrev pub view : List ℕ → List ℕ → Cells
 view ws ds =

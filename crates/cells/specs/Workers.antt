@@ -1,13 +1,15 @@
 -- How the workers' own types are read.
 use mathlib.Core.List.{List, [], _∷_}
+use mathlib.Core.Path.{_≡_}
 use Prim.Native.Nat.{ℕ, _+_}
 use lib.ListN.{length}
 use Rattle.rules.specs.Cells.{Cells, Counts}
 use Rattle.rules.specs.Walk as rule
 use Rattle.rules.specs.Walk.{probeFrom}
-use Rattle.rules.specs.Answers.{Said, new, replaced, revived, refused, Outcome}
+use Rattle.rules.specs.Answers.{Said, found, absent, new, replaced, revived, removed, refused, Change, nothing, store, fill, Outcome}
 use Rattle.rules.specs.Calls.{insertHit}
-use Rattle.cells.specs.Layout.{Done, countsOf}
+use Rattle.rules.specs.Entries.{Place, occupied, vacant}
+use Rattle.cells.specs.Layout.{Done, doneBy, countsOf}
 use Rattle.cells.specs.declared.walk.Stop.{Stop}
 use Rattle.cells.specs.declared.walk.Stop.the-variants.{Met, Tail, Broken}
 use Rattle.cells.specs.declared.walk.Hit.{Hit}
@@ -40,6 +42,31 @@ insertSaid says.Broken = refused 5 []
 abbrev pub insertDone : Inserted → List ℕ → List ℕ → Done
 insertDone r ws ds =
     record { said = insertSaid (r .said); looked = r .looked; counts = countsOf (r .live); words = ws; deltas = ds }
+
+-- the place of a key after an insert's answer, where i is the cell that it changed
+abbrev pub placeBy : ℕ → Said → Place
+placeBy i new = occupied i
+placeBy i (replaced v) = occupied i
+placeBy i revived = occupied i
+placeBy i (found v) = vacant
+placeBy i absent = vacant
+placeBy i (removed v) = vacant
+placeBy i (refused n l) = vacant
+
+-- and after a change: the cell that was changed
+abbrev pub placeAfter : Change → Place
+placeAfter nothing = vacant
+placeAfter (store i v) = occupied i
+placeAfter (fill i h k v l) = occupied i
+
+-- i is the cell of what an insert changes, if it changes any
+abbrev pub CellOf : ℕ → Outcome → Type 0
+CellOf i o = placeBy i (o .said) ≡ placeAfter (o .change)
+
+-- a worker did what the outcome says, from the slices ws and ds, and names the cell that was changed
+pub record InsertedBy (r : Inserted) (o : Outcome) (ws ds ws′ ds′ : List ℕ) : Type 0 where
+  pub done : insertDone r ws′ ds′ ≡ doneBy o ws ds
+  pub cell : CellOf (r .at) o
 
 -- an insert from the tail q of a walk that looked at n cells
 unfoldable pub insertTail : (S : ℕ) → Cells → Counts → (n h k v q : ℕ) → Outcome

@@ -1,14 +1,17 @@
 // Insert by a stored hash, below the checks of hash and value.
 ghost use mathlib.Core.Bool.{true};
 ghost use mathlib.Core.List.{List};
+ghost use mathlib.Core.Logic.{_≢_};
 ghost use mathlib.Core.Path.{_≡_};
-ghost use Prim.Native.Nat.{ℕ, _+_, _*_, _<_, _≤_};
+ghost use Prim.Native.Nat.{ℕ, _+_, _*_, _%_, _<_, _≤_};
 ghost use lib.ListN.{length};
 ghost use Rattle.rules.specs.Sizes.{isSize};
+ghost use Rattle.rules.specs.Walk.{walk};
 ghost use Rattle.rules.specs.Calls.{insertMet, insertStored, linkFrom};
 ghost use Rattle.rules.specs.Answers.{settle, new, fill, unlinked};
-ghost use Rattle.cells.specs.Layout.{Shaped, null, view, valueIn, linked, countsOf, doneBy};
-ghost use Rattle.cells.specs.Workers.{insertDone, insertTail};
+ghost use Rattle.steps.specs.Steps.{Ends};
+ghost use Rattle.cells.specs.Layout.{Shaped, null, view, hashIn, valueIn, linked, countsOf};
+ghost use Rattle.cells.specs.Workers.{stopOf, InsertedBy, insertTail};
 use crate::Table;
 use crate::cell_of;
 use crate::slices::fill_cell;
@@ -51,6 +54,8 @@ pub struct Inserted {
     pub said: InsertSaid,
     pub looked: usize,
     pub live: usize,
+    // The cell that was changed; any where none was.
+    pub at: usize,
 }
 
 // Cell i was met: its value is replaced, or it is revived.
@@ -63,7 +68,7 @@ fn insert_met(
     looked: usize,
 ) -> Inserted
     requires { ⌜ (3 * i + 2 < length (now words)) × (size ≤ 65536) ⌝ }
-    ensures { λ r. ⌜ ((ds : List ℕ) → insertDone r (now (words .exit)) ds ≡ doneBy (insertMet size null (countsOf live) looked i (valueIn (now (words .entry)) i) value) (now (words .entry)) ds) ⌝ }
+    ensures { λ r. ⌜ ((ds : List ℕ) → InsertedBy r (insertMet size null (countsOf live) looked i (valueIn (now (words .entry)) i) value) (now (words .entry)) ds (now (words .exit)) ds) ⌝ }
 {
     let old = value_at(words, i);
     if old == Table::NULL {
@@ -73,12 +78,14 @@ fn insert_met(
                 said: InsertSaid::Revived,
                 looked,
                 live: live + 1,
+                at: i,
             };
         }
         return Inserted {
             said: InsertSaid::Broken,
             looked,
             live,
+            at: i,
         };
     }
     store_value(words, i, value);
@@ -86,11 +93,12 @@ fn insert_met(
         said: InsertSaid::Replaced(old),
         looked,
         live,
+        at: i,
     }
 }
 
 // The home, cell i, is empty.
-fn insert_home(
+pub fn insert_home(
     words: &mut [u64],
     size: usize,
     live: usize,
@@ -100,7 +108,7 @@ fn insert_home(
     value: u64,
 ) -> Inserted
     requires { ⌜ (3 * i + 2 < length (now words)) × (size ≤ 65536) ⌝ }
-    ensures { λ r. ⌜ ((ds : List ℕ) → insertDone r (now (words .exit)) ds ≡ doneBy (settle size (countsOf live) 1 new (fill i hash key value unlinked)) (now (words .entry)) ds) ⌝ }
+    ensures { λ r. ⌜ ((ds : List ℕ) → InsertedBy r (settle size (countsOf live) 1 new (fill i hash key value unlinked)) (now (words .entry)) ds (now (words .exit)) ds) ⌝ }
 {
     if live < size {
         fill_cell(words, i, hash, key, value);
@@ -108,12 +116,14 @@ fn insert_home(
             said: InsertSaid::New,
             looked: 1,
             live: live + 1,
+            at: i,
         };
     }
     Inserted {
         said: InsertSaid::Broken,
         looked: 1,
         live,
+        at: i,
     }
 }
 
@@ -142,26 +152,28 @@ fn insert_tail(
     looked: usize,
 ) -> Inserted
     requires { ⌜ Shaped size (now words) (now deltas) × (looked ≤ size) ⌝ }
-    ensures { λ r. ⌜ insertDone r (now (words .exit)) (now (deltas .exit)) ≡ doneBy (insertTail size (view (now (words .entry)) (now (deltas .entry))) (countsOf live) looked hash key value tail) (now (words .entry)) (now (deltas .entry)) ⌝ }
+    ensures { λ r. ⌜ InsertedBy r (insertTail size (view (now (words .entry)) (now (deltas .entry))) (countsOf live) looked hash key value tail) (now (words .entry)) (now (deltas .entry)) (now (words .exit)) (now (deltas .exit)) ⌝ }
 {
     let count = window_of(size);
-    let hit = probe_from(words, deltas, size, count, tail);
+    let hit = probe_from(words, size, count, tail);
     match hit {
         Hit::Free(d) => {
             if live < size {
-                let at = wrapping_add_u64(tail, d as u64);
-                fill_cell(words, cell_of(at, size), hash, key, value);
+                let at = cell_of(wrapping_add_u64(tail, d as u64), size);
+                fill_cell(words, at, hash, key, value);
                 link(deltas, size, looked, hash, tail, d);
                 return Inserted {
                     said: InsertSaid::New,
                     looked: looked + d,
                     live: live + 1,
+                    at,
                 };
             }
             Inserted {
                 said: InsertSaid::Broken,
                 looked: looked + d,
                 live,
+                at: 0,
             }
         }
         Hit::Taken => {
@@ -170,8 +182,36 @@ fn insert_tail(
                 said: InsertSaid::Full(FullAt { position }),
                 looked: looked + count,
                 live,
+                at: 0,
             }
         }
+    }
+}
+
+// Past a home that is taken, from where the walk stopped.
+pub fn insert_walked(
+    words: &mut [u64],
+    deltas: &mut [u8],
+    size: usize,
+    live: usize,
+    hash: u64,
+    key: u64,
+    value: u64,
+    stop: Stop,
+    looked: usize,
+) -> Inserted
+    requires { ⌜ Shaped size (now words) (now deltas) × (hashIn (now words) (hash % size) ≢ 0) × Ends (stopOf stop) looked (walk size (view (now words) (now deltas)) hash key) ⌝ }
+    ensures { λ r. ⌜ InsertedBy r (insertStored size null (view (now (words .entry)) (now (deltas .entry))) (valueIn (now (words .entry))) (countsOf live) hash key value) (now (words .entry)) (now (deltas .entry)) (now (words .exit)) (now (deltas .exit)) ⌝ }
+{
+    match stop {
+        Stop::Met(at) => insert_met(words, size, live, cell_of(at, size), value, looked),
+        Stop::Tail(at) => { insert_tail(words, deltas, size, live, hash, key, value, at, looked) }
+        Stop::Broken => Inserted {
+            said: InsertSaid::Broken,
+            looked,
+            live,
+            at: 0,
+        },
     }
 }
 
@@ -186,7 +226,7 @@ pub fn insert_stored(
     value: u64,
 ) -> Inserted
     requires { ⌜ Shaped size (now words) (now deltas) ⌝ }
-    ensures { λ r. ⌜ insertDone r (now (words .exit)) (now (deltas .exit)) ≡ doneBy (insertStored size null (view (now (words .entry)) (now (deltas .entry))) (valueIn (now (words .entry))) (countsOf live) hash key value) (now (words .entry)) (now (deltas .entry)) ⌝ }
+    ensures { λ r. ⌜ InsertedBy r (insertStored size null (view (now (words .entry)) (now (deltas .entry))) (valueIn (now (words .entry))) (countsOf live) hash key value) (now (words .entry)) (now (deltas .entry)) (now (words .exit)) (now (deltas .exit)) ⌝ }
 {
     let home = cell_of(hash, size);
     if hash_at(words, home) == 0 {
@@ -195,13 +235,5 @@ pub fn insert_stored(
     let walked = walk_to(words, deltas, size, hash, key);
     let looked = walked.looked;
     let stop = walked.stop;
-    match stop {
-        Stop::Met(at) => insert_met(words, size, live, cell_of(at, size), value, looked),
-        Stop::Tail(at) => { insert_tail(words, deltas, size, live, hash, key, value, at, looked) }
-        Stop::Broken => Inserted {
-            said: InsertSaid::Broken,
-            looked,
-            live,
-        },
-    }
+    insert_walked(words, deltas, size, live, hash, key, value, stop, looked)
 }

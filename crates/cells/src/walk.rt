@@ -1,6 +1,9 @@
 // The walk to a key, and the probe past a tail.
+ghost use mathlib.Core.Bool.{true};
 ghost use mathlib.Core.Path.{_≡_};
-ghost use Prim.Native.Nat.{_≤_};
+ghost use Prim.Native.Nat.{_*_, _≤_};
+ghost use lib.ListN.{length};
+ghost use Rattle.rules.specs.Sizes.{isSize};
 ghost use Rattle.rules.specs.Walk.{walk, probe};
 ghost use Rattle.steps.specs.Steps.{Ends};
 ghost use Rattle.cells.specs.Layout.{Shaped, view, hashIn};
@@ -70,8 +73,8 @@ pub enum Hit {
 }
 
 // The next so many positions past a tail.
-pub fn probe_from(words: &[u64], deltas: &[u8], size: usize, count: usize, tail: u64) -> Hit
-    requires { ⌜ Shaped size (now words) (now deltas) × (count ≤ 128) ⌝ }
+pub fn probe_from(words: &[u64], size: usize, count: usize, tail: u64) -> Hit
+    requires { ⌜ (isSize size ≡ true) × (3 * size ≤ length (now words)) × (count ≤ 128) ⌝ }
     ensures { λ r. ⌜ hitOf r ≡ probe size (hashIn (now (words .entry))) tail count 1 .hit ⌝ }
 {
     let mut d: usize = 1;

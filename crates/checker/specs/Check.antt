@@ -6,7 +6,6 @@ use Rattle.rules.specs.Sizes.{window}
 use Rattle.rules.specs.Cells.{Params, Cells, Counts, Lent, isTaken, isLive, shape}
 use Rattle.rules.specs.Walk.{Stop, met, tail, broken, walk}
 use Rattle.rules.specs.Sound.{count}
-use Rattle.cells.specs.Layout.{null}
 use Rattle.checker.specs.declared.CheckSaid.{CheckSaid}
 use Rattle.checker.specs.declared.CheckSaid.the-variants as says
 
@@ -14,10 +13,6 @@ use Rattle.checker.specs.declared.CheckSaid.the-variants as says
 unfoldable pub all : (ℕ → Bool) → ℕ → Bool
 all test zero = true
 all test (suc n) = all test n && test n
-
--- a cell of this hash and value is live
-abbrev pub liveTest : (hash value : ℕ) → Bool
-liveTest hash value = not (eqb hash 0) && not (eqb value null)
 
 -- cell j with this hash is taken, of home h, and not the home cell
 abbrev pub ofHomeTest : (S h j hash : ℕ) → Bool

@@ -6,13 +6,14 @@ ghost use Prim.Native.Nat.{_+_, _*_, _-_, _<_};
 ghost use lib.ListN.{length, getD};
 ghost use Rattle.rules.specs.Sizes.{isSize};
 ghost use Rattle.rules.specs.Sound.{one};
-ghost use Rattle.cells.specs.Layout.{Shaped, firstAt, secondAt, null, hashIn, valueIn, view, paramsOf, countsOf, lent};
-ghost use Rattle.checker.specs.Check.{liveTest, ofHomeTest, chainTest, metTest, emptyTest, homeTest, takenTest, cellTest, soundTest, checkSaid, checkRule};
+ghost use Rattle.cells.specs.Layout.{Shaped, firstAt, secondAt, null, hashIn, valueIn, liveIn, view, paramsOf, countsOf, lent};
+ghost use Rattle.checker.specs.Check.{ofHomeTest, chainTest, metTest, emptyTest, homeTest, takenTest, cellTest, soundTest, checkSaid, checkRule};
 use cells::Table;
 use cells::cell_of;
 use cells::passes;
 use cells::slices::first_delta;
 use cells::slices::hash_at;
+use cells::slices::is_live;
 use cells::slices::key_at;
 use cells::slices::second_delta;
 use cells::slices::value_at;
@@ -32,18 +33,15 @@ pub enum CheckSaid {
     Unsound,
 }
 
-// 1 where cell i is taken and not removed, else 0.
+// 1 where cell i is live, else 0.
 fn live_one(words: &[u64], i: usize) -> usize
     requires { ⌜ 3 * i + 2 < length (now words) ⌝ }
-    ensures { λ r. ⌜ r ≡ one (liveTest (hashIn (now (words .entry)) i) (valueIn (now (words .entry)) i)) ⌝ }
+    ensures { λ r. ⌜ r ≡ one (liveIn (now (words .entry)) i) ⌝ }
 {
-    if hash_at(words, i) == 0 {
-        return 0;
+    if is_live(words, i) {
+        return 1;
     }
-    if value_at(words, i) == Table::NULL {
-        return 0;
-    }
-    1
+    0
 }
 
 // Cell j is taken, of this home, and not the home cell.

@@ -11,8 +11,9 @@ use Rattle.rules.specs.Answers.{Said, Change, nothing, store, fill, Outcome, le
 use Rattle.rules.specs.Entries.{Place, occupied, vacant, Entry, Action, inserting, below, useShape, offers, onCase, entryAfter}
 use Rattle.cells.specs.declared.Table.{Table}
 use Rattle.cells.specs.Layout.{Shaped, null, isShaped, sizeIn, lent, Done, doneBy}
+use Rattle.cells.specs.Workers.{placeAfter}
 use Rattle.hashentry.specs.Answers.{Handed, handedBy, insertHanded}
-use Rattle.hashentry.specs.Workers.{doing, placeAfter, placedBy}
+use Rattle.hashentry.specs.Workers.{doing, placedBy}
 use Rattle.hashentry.specs.declared.inserting.EntryInsertAnswer.{EntryInsertAnswer}
 use Rattle.hashentry.specs.declared.inserting.Doing.{Doing}
 use Rattle.hashentry.specs.declared.inserting.Doing.the-variants.{Refuse, Keep, Replace}

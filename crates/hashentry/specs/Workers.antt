@@ -5,10 +5,11 @@ use mathlib.Core.Logic.{_≢_}
 use mathlib.Core.Path.{_≡_}
 use Prim.Native.Nat.{ℕ}
 use Rattle.rules.specs.Cells.{Cells, Counts}
-use Rattle.rules.specs.Answers.{Said, found, absent, new, replaced, revived, removed, refused, Change, nothing, store, fill, Outcome, leave}
+use Rattle.rules.specs.Answers.{refused, Outcome, leave}
 use Rattle.rules.specs.Calls.{findIn, insertStored}
 use Rattle.rules.specs.Entries.{Place, occupied, vacant, Entry, Action, keeping, replacing, inserting, isFound, uncounted}
 use Rattle.cells.specs.Layout.{null, valueIn, holdsIn, Done, doneBy, countsOf}
+use Rattle.cells.specs.Workers.{placeAfter}
 use Rattle.hashentry.specs.Answers.{placeOf, entryInsertSaid}
 use Rattle.hashentry.specs.declared.looking.Looked.{Looked}
 use Rattle.hashentry.specs.declared.looking.Looked.the-variants.{Held, ZeroHash, Stale}
@@ -43,26 +44,6 @@ abbrev pub doing : Doing → ℕ → Action
 doing Refuse v = inserting v
 doing Keep v = keeping v
 doing Replace v = replacing v
-
--- the place of a key after an insert's answer, where i is the cell that it changed
-abbrev pub placeBy : ℕ → Said → Place
-placeBy i new = occupied i
-placeBy i (replaced v) = occupied i
-placeBy i revived = occupied i
-placeBy i (found v) = vacant
-placeBy i absent = vacant
-placeBy i (removed v) = vacant
-placeBy i (refused n l) = vacant
-
--- and after a change: the cell that was changed
-abbrev pub placeAfter : Change → Place
-placeAfter nothing = vacant
-placeAfter (store i v) = occupied i
-placeAfter (fill i h k v l) = occupied i
-
--- i is the cell of what an insert changes, if it changes any
-abbrev pub CellOf : ℕ → Outcome → Type 0
-CellOf i o = placeBy i (o .said) ≡ placeAfter (o .change)
 
 -- a Vacant entry's insert behind the checks: Stale where a find gives a value
 unfoldable pub putIn : (S null : ℕ) → Cells → (ℕ → ℕ) → Counts → (h k v : ℕ) → Outcome

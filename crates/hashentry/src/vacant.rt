@@ -1,32 +1,30 @@
 // Internal: the insert of a Vacant entry.
 ghost use mathlib.Core.Bool.{true};
 ghost use mathlib.Core.Path.{_≡_};
-ghost use Prim.Native.Nat.{ℕ, _*_, _≤_};
+ghost use Prim.Native.Nat.{_*_, _≤_};
 ghost use lib.ListN.{length};
-ghost use Rattle.rules.specs.Cells.{Counts};
 ghost use Rattle.rules.specs.Sizes.{isSize};
 ghost use Rattle.rules.specs.Walk.{walk};
 ghost use Rattle.rules.specs.Calls.{findAt, insertStored};
+ghost use Rattle.steps.specs.Steps.{Ends};
 ghost use Rattle.cells.specs.Layout.{Shaped, null, view, valueIn, countsOf};
-ghost use Rattle.cells.specs.Workers.{stopOf, insertSaid};
+ghost use Rattle.cells.specs.Workers.{stopOf, insertSaid, placeBy, InsertedBy};
 ghost use Rattle.rules.specs.Entries.{isFound};
 ghost use Rattle.hashentry.specs.Answers.{placeOf, entryInsertSaid};
-ghost use Rattle.hashentry.specs.Workers.{CellOf, placeBy, putIn, placedBy, putDone};
+ghost use Rattle.hashentry.specs.Workers.{putIn, placedBy, putDone};
 use crate::record::CellAt;
 use crate::record::Place;
 use cells::Table;
 use cells::cell_of;
 use cells::insert::FullAt;
 use cells::insert::InsertSaid;
-use cells::insert::insert_stored;
+use cells::insert::Inserted;
+use cells::insert::insert_home;
+use cells::insert::insert_walked;
 use cells::slices::hash_at;
 use cells::slices::value_at;
-use cells::walk::Hit;
 use cells::walk::Stop;
-use cells::walk::probe_from;
 use cells::walk::walk_to;
-use cells::window_of;
-use std::num::wrapping_add_u64;
 
 // What a call that inserts says. Found: the value that or_insert kept. Replaced: by insert_entry.
 pub enum EntryInsertSaid {
@@ -60,26 +58,26 @@ fn is_found(words: &[u64], size: usize, stop: Stop) -> bool
     }
 }
 
-// The cell that an insert would change, by where the walk stopped; any cell where it would change none.
-fn cell_for(words: &[u64], deltas: &[u8], size: usize, hash: u64, key: u64, stop: Stop) -> usize
-    requires { ⌜ Shaped size (now words) (now deltas) × (stopOf stop ≡ walk size (view (now words) (now deltas)) hash key .stop) ⌝ }
-    ensures { λ r. ⌜ ((c : Counts) (v : ℕ) → CellOf r (insertStored size null (view (now (words .entry)) (now (deltas .entry))) (valueIn (now (words .entry))) c hash key v)) ⌝ }
+// The insert, by a walk that was made already: an empty home is used at once, wherever the walk stopped.
+fn insert_after(
+    words: &mut [u64],
+    deltas: &mut [u8],
+    size: usize,
+    live: usize,
+    hash: u64,
+    key: u64,
+    value: u64,
+    stop: Stop,
+    looked: usize,
+) -> Inserted
+    requires { ⌜ Shaped size (now words) (now deltas) × Ends (stopOf stop) looked (walk size (view (now words) (now deltas)) hash key) ⌝ }
+    ensures { λ r. ⌜ InsertedBy r (insertStored size null (view (now (words .entry)) (now (deltas .entry))) (valueIn (now (words .entry))) (countsOf live) hash key value) (now (words .entry)) (now (deltas .entry)) (now (words .exit)) (now (deltas .exit)) ⌝ }
 {
     let home = cell_of(hash, size);
     if hash_at(words, home) == 0 {
-        return home;
+        return insert_home(words, size, live, home, hash, key, value);
     }
-    match stop {
-        Stop::Met(at) => cell_of(at, size),
-        Stop::Tail(at) => {
-            let hit = probe_from(words, deltas, size, window_of(size), at);
-            match hit {
-                Hit::Free(d) => cell_of(wrapping_add_u64(at, d as u64), size),
-                Hit::Taken => home,
-            }
-        }
-        Stop::Broken => home,
-    }
+    insert_walked(words, deltas, size, live, hash, key, value, stop, looked)
 }
 
 struct Told {
@@ -135,7 +133,7 @@ pub struct Putting {
     pub live: usize,
 }
 
-// Looks again: a key that has a value now is Stale. Else an insert, whose own walk answers.
+// Looks again: a key that has a value now is Stale. Else an insert, by the same walk.
 pub fn put(
     words: &mut [u64],
     deltas: &mut [u8],
@@ -148,7 +146,9 @@ pub fn put(
     requires { ⌜ Shaped size (now words) (now deltas) ⌝ }
     ensures { λ r. ⌜ putDone r (now (words .exit)) (now (deltas .exit)) ≡ placedBy (putIn size null (view (now (words .entry)) (now (deltas .entry))) (valueIn (now (words .entry))) (countsOf live) hash key value) (now (words .entry)) (now (deltas .entry)) ⌝ }
 {
-    let stop = walk_to(words, deltas, size, hash, key).stop;
+    let walked = walk_to(words, deltas, size, hash, key);
+    let looked = walked.looked;
+    let stop = walked.stop;
     if is_found(words, size, stop) {
         return Putting {
             said: EntryInsertSaid::Stale,
@@ -156,10 +156,9 @@ pub fn put(
             live,
         };
     }
-    let index = cell_for(words, deltas, size, hash, key, stop);
-    let done = insert_stored(words, deltas, size, live, hash, key, value);
+    let done = insert_after(words, deltas, size, live, hash, key, value, stop, looked);
     let answer = done.said;
-    let told = tell(answer, index);
+    let told = tell(answer, done.at);
     let said = told.said;
     let place = told.place;
     Putting {

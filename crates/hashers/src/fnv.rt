@@ -47,7 +47,7 @@ impl FnvHasher {
 pub(crate) fn fnv_key(key: u64) -> u64
     ensures { λ r. ⌜ r ≡ hashOf Fnv key ⌝ }
 {
-    let mut state: u64 = 0xcbf29ce484222325;
+    let mut state: u64 = FnvHasher::START.0;
     let mut rest = key;
     for i in 0..8usize {
         state = fnv_byte(state, (rest % 256) as u8);

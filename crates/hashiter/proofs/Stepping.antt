@@ -7,8 +7,7 @@ use native.Mathlib.Omega.{arith}
 use Rattle.hashers.specs.declared.Hasher.{Hasher}
 use Rattle.rules.specs.Cells.{Params, Cells, Lent, isLive, shape}
 use Rattle.rules.specs.Cursor.{Next, at, none, firstFrom, next, end, refusal, stepTo, stepIn, step}
-use Rattle.cells.specs.Layout.{paramsOf, view, keyIn, valueIn}
-use Rattle.hashiter.specs.Answers.{liveIn}
+use Rattle.cells.specs.Layout.{paramsOf, view, keyIn, valueIn, liveIn}
 
 module _ (p : Params) (cs : Cells) (value : ℕ → ℕ) (i : ℕ) where
   -- from position S on it is the end, and the cursor stays

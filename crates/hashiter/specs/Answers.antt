@@ -1,20 +1,14 @@
 -- Each case of each answer, by 01's number and values; and what a call left.
-use mathlib.Core.Bool.{Bool, not, _&&_}
 use mathlib.Core.List.{List, []}
 use Prim.Native.Nat.{ℕ}
-use lib.Dec.{eqb}
 use Rattle.rules.specs.Answers.{Said, absent, replaced, refused}
 use Rattle.rules.specs.Cursor as rule
-use Rattle.cells.specs.Layout.{Done, null, hashIn, valueIn, countsOf}
+use Rattle.cells.specs.Layout.{Done, countsOf}
 use Rattle.hashiter.specs.declared.StepSaid.{StepSaid}
 use Rattle.hashiter.specs.declared.StepSaid.the-variants as steps
 use Rattle.hashiter.specs.declared.Stepped.{Stepped}
 use Rattle.hashiter.specs.declared.SetSaid.{SetSaid}
 use Rattle.hashiter.specs.declared.SetSaid.the-variants as sets
-
--- a cell is taken, and its value is not null
-abbrev pub liveIn : List ℕ → ℕ → Bool
-liveIn ws i = not (eqb (hashIn ws i) 0) && not (eqb (valueIn ws i) null)
 
 abbrev pub stepSaid : StepSaid → rule.StepSaid
 stepSaid (steps.Next c) = rule.next (c .index) (c .key) (c .value)

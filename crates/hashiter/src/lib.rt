@@ -7,11 +7,12 @@ ghost use lib.ListN.{length};
 ghost use Rattle.hashers.specs.declared.Hasher.{Hasher};
 ghost use Rattle.rules.specs.Cursor.{start as start·rule, stepIn, step as step·rule, setAt, setValue};
 ghost use Rattle.cells.specs.Layout.{paramsOf, countsOf, view, valueIn, lent, doneBy};
-ghost use Rattle.hashiter.specs.Answers.{liveIn, stepped, setDone};
+ghost use Rattle.hashiter.specs.Answers.{stepped, setDone};
 use cells::Offered;
 use cells::offer;
 use cells::passes;
 use cells::slices::hash_at;
+use cells::slices::is_live;
 use cells::slices::key_at;
 use cells::slices::store_value;
 use cells::slices::value_at;
@@ -50,17 +51,6 @@ pub enum SetSaid {
     Shape,
     // 3
     Null,
-}
-
-// Whether cell i is live: taken, and its value not null.
-fn is_live(words: &[u64], i: usize) -> bool
-    requires { ⌜ 3 * i + 2 < length (now words) ⌝ }
-    ensures { λ r. ⌜ r ≡ liveIn (now (words .entry)) i ⌝ }
-{
-    if hash_at(words, i) == 0 {
-        return false;
-    }
-    value_at(words, i) != Table::NULL
 }
 
 // Behind the check of a step.

@@ -9,8 +9,8 @@ use Rattle.rules.specs.Sizes.{isSize}
 use Rattle.rules.specs.Walk.{on}
 use Rattle.rules.specs.Sound.{one, count}
 use Rattle.rules.specs.Growth.{sampled, sampleStart}
+use Rattle.cells.specs.Layout.{liveIn}
 use Rattle.cells.proofs.Shapes.{cell-lt}
-use Rattle.sizing.specs.Live.{liveIn}
 
 -- the first i positions were looked at: n of them have a live cell
 pub record Counting (ws : List ℕ) (S carried start n i : ℕ) : Type 0 where

@@ -9,12 +9,10 @@ ghost use Rattle.hashers.specs.declared.Hasher.{Hasher};
 ghost use Rattle.rules.specs.Sizes.{isSize, leastLog};
 ghost use Rattle.rules.specs.Growth.{sampled, firstSize, sample as sample·rule};
 ghost use Rattle.cells.specs.Layout.{paramsOf, view, valueIn};
-ghost use Rattle.sizing.specs.Live.{liveIn};
 ghost use Rattle.sizing.specs.Float.{estimated};
 use cells::Table;
 use cells::cell_of;
-use cells::slices::hash_at;
-use cells::slices::value_at;
+use cells::slices::is_live;
 use std::num::truncating_f32_to_u64;
 use std::num::wrapping_add_u64;
 use std::num::wrapping_sub_u64;
@@ -22,19 +20,6 @@ use util::round_to_pow2;
 
 // How many positions a sample looks at.
 const SAMPLED: u64 = 64;
-
-// Whether cell i is live: taken, and its value not null.
-fn is_live(words: &[u64], i: usize) -> bool
-    requires { ⌜ 3 * i + 2 < length (now words) ⌝ }
-    ensures { λ r. ⌜ r ≡ liveIn (now (words .entry)) i ⌝ }
-{
-    let hash = hash_at(words, i);
-    let value = value_at(words, i);
-    if hash == 0 {
-        return false;
-    }
-    value != Table::NULL
-}
 
 // The live cells among the 64 positions from the carried one minus 64 on. A cell that is seen again counts again.
 // The words may go on past the table's.

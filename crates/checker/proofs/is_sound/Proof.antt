@@ -8,9 +8,9 @@ use Prim.Native.Nat.{ℕ, _-_, _≤_}
 use Rattle.rules.specs.Cells.{isLive}
 use Rattle.rules.specs.Sound.{count}
 use Rattle.steps.proofs.Sizes.{size-greatest}
-use Rattle.cells.specs.Layout.{view, valueIn, hashIn, paramsOf, countsOf}
+use Rattle.cells.specs.Layout.{view, valueIn, liveIn, paramsOf, countsOf}
 use Rattle.cells.proofs.Shapes.{words-hold}
-use Rattle.checker.specs.Check.{all, cellTest, liveTest}
+use Rattle.checker.specs.Check.{all, cellTest}
 use Rattle.checker.proofs.Counting.{all-none, all-more, count-none, count-more, one-most, sound-fails, sound-counts}
 use Rattle.checker.proofs.is_sound.Statement.{statement}
 use Rattle.checker.proofs.is_sound.Tie as tie
@@ -36,7 +36,7 @@ live-one-requires c κs = words-hold _ (c .before .before .before .before .befor
 
 add-seen : tie.Need-add-seen Inv-loop μ-loop
 add-seen c =
-    omega (arith, size-greatest _ (c .before .before .before .before .before .before .before .pre .size), c .live-one .ensures, one-most (isLive (paramsOf (c .before .before .before .before .before .before .before .args .size) (c .before .before .before .before .before .before .before .args .hasher)) (view (c .before .before .before .before .before .before .before .args .words .now) (c .before .before .before .before .before .before .before .args .deltas .now)) (valueIn (c .before .before .before .before .before .before .before .args .words .now))) (liveTest (hashIn (c .before .before .before .before .before .before .before .args .words .now) (c .before .before .before .before .loop .i)) (valueIn (c .before .before .before .before .before .before .before .args .words .now) (c .before .before .before .before .loop .i))))
+    omega (arith, size-greatest _ (c .before .before .before .before .before .before .before .pre .size), c .live-one .ensures, one-most (isLive (paramsOf (c .before .before .before .before .before .before .before .args .size) (c .before .before .before .before .before .before .before .args .hasher)) (view (c .before .before .before .before .before .before .before .args .words .now) (c .before .before .before .before .before .before .before .args .deltas .now)) (valueIn (c .before .before .before .before .before .before .before .args .words .now))) (liveIn (c .before .before .before .before .before .before .before .args .words .now) (c .before .before .before .before .loop .i)))
 
 add-i : tie.Need-add-i Inv-loop μ-loop
 add-i c = omega (arith, size-greatest _ (c .before .before .before .before .before .before .before .pre .size))
@@ -47,7 +47,7 @@ loop-less c = search needs
 loop-again : tie.Need-loop-again Inv-loop μ-loop
 loop-again c = (
   search needs,
-  omega (arith, c .live-one .ensures, one-most (isLive (paramsOf (c .before .before .before .before .before .before .before .args .size) (c .before .before .before .before .before .before .before .args .hasher)) (view (c .before .before .before .before .before .before .before .args .words .now) (c .before .before .before .before .before .before .before .args .deltas .now)) (valueIn (c .before .before .before .before .before .before .before .args .words .now))) (liveTest (hashIn (c .before .before .before .before .before .before .before .args .words .now) (c .before .before .before .before .loop .i)) (valueIn (c .before .before .before .before .before .before .before .args .words .now) (c .before .before .before .before .loop .i)))),
+  omega (arith, c .live-one .ensures, one-most (isLive (paramsOf (c .before .before .before .before .before .before .before .args .size) (c .before .before .before .before .before .before .before .args .hasher)) (view (c .before .before .before .before .before .before .before .args .words .now) (c .before .before .before .before .before .before .before .args .deltas .now)) (valueIn (c .before .before .before .before .before .before .before .args .words .now))) (liveIn (c .before .before .before .before .before .before .before .args .words .now) (c .before .before .before .before .loop .i))),
   all-more _ _ (c .before .before .before .before .loop .inv .2) (sym (c .before .before .cell-ok .ensures) ∙ not-false _ (c .before .if1 .left)),
   count-more _ _ _ _ (c .before .before .before .before .loop .inv .3) (c .live-one .ensures),
 )

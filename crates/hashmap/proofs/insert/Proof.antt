@@ -47,7 +47,7 @@ returns-2 c =
     as-left _ (c .before .before .before .before .before .before .before .before .before .before .before .before .before .before .before .before .before .before .args .table) _ _
     (as-rule _ _ _ _
     (insert-past _ _ _ (shape-passes (lent (c .before .before .before .before .before .before .before .before .before .before .before .before .before .before .before .before .before .before .args .words .now) (c .before .before .before .before .before .before .before .before .before .before .before .before .before .before .before .before .before .before .args .deltas .now) (c .before .before .before .before .before .before .before .before .before .before .before .before .before .before .before .before .before .before .args .table)) (sym (c .before .before .before .before .before .before .before .before .before .before .before .before .before .passes .ensures) ∙ c .before .before .before .before .before .before .before .before .before .before .before .before .if1 .taken)) _ (c .before .before .before .before .before .before .before .before .hash-of .ensures) (sym (c .before .before .before .before .before .before .before .before .before .before .before .offer .ensures) ∙ ap offeredBy (c .before .before .before .before .before .before .before .before .before .enum-told .given .1)) (c .before .before .before .before .before .before .before .if2 .left))
-    (c .before .before .before .before .insert-stored .ensures))
+    (c .before .before .before .before .insert-stored .ensures .done))
 
 enum-told-2 : tie.Need-enum-told-2
 enum-told-2 c = search needs

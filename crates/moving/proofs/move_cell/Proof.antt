@@ -36,7 +36,7 @@ same-length-2 c = search needs
 returns-3 : tie.Need-returns-3
 returns-3 c = λ ds.
     rw (c .end-after .ensures)
-    (cell-inserted (heldIn (c .before .before .before .before .before .before .before .before .before .before .before .before .before .before .before .before .args .from .now) ds) _ _ (c .before .before .before .before .before .before .before .before .before .before .before .before .before .before .before .before .args .words .now) (c .before .before .before .before .before .before .before .before .before .before .before .before .before .before .before .before .args .deltas .now) (countsOf (c .before .before .before .before .before .before .before .before .before .before .before .before .before .before .before .before .args .live)) _ (c .before .before .before .before .before .before .before .before .before .before .before .before .value-at .ensures) (c .before .before .before .before .before .before .before .before .before .before .before .if1 .left) _ (c .before .before .before .before .before .before .before .before .before .before .hash-at .ensures) (c .before .before .before .before .before .before .before .before .before .if2 .left) _ (c .before .before .before .before .before .before .before .before .key-at .ensures) (c .before .before .before .before .before .insert-stored .result) _ _ (c .before .before .before .before .before .insert-stored .ensures))
+    (cell-inserted (heldIn (c .before .before .before .before .before .before .before .before .before .before .before .before .before .before .before .before .args .from .now) ds) _ _ (c .before .before .before .before .before .before .before .before .before .before .before .before .before .before .before .before .args .words .now) (c .before .before .before .before .before .before .before .before .before .before .before .before .before .before .before .before .args .deltas .now) (countsOf (c .before .before .before .before .before .before .before .before .before .before .before .before .before .before .before .before .args .live)) _ (c .before .before .before .before .before .before .before .before .before .before .before .before .value-at .ensures) (c .before .before .before .before .before .before .before .before .before .before .before .if1 .left) _ (c .before .before .before .before .before .before .before .before .before .before .hash-at .ensures) (c .before .before .before .before .before .before .before .before .before .if2 .left) _ (c .before .before .before .before .before .before .before .before .key-at .ensures) (c .before .before .before .before .before .insert-stored .result) _ _ (c .before .before .before .before .before .insert-stored .ensures .done))
 
 pub move-cell-spec : {M : Type 1} → statement M
 move-cell-spec =

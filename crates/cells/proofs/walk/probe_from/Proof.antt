@@ -4,15 +4,15 @@ use native.Mathlib.Omega.{arith}
 use Prim.Native.Nat.{_+_, _-_}
 use Rattle.steps.proofs.Probing.{Probing, probing-start, probing-end, probing-free, probing-on}
 use Rattle.cells.specs.Layout.{hashIn}
-use Rattle.cells.proofs.Shapes.{in-words}
+use Rattle.cells.proofs.Shapes.{words-hold, cell-lt}
 use Rattle.cells.proofs.walk.probe_from.Statement.{statement}
 use Rattle.cells.proofs.walk.probe_from.Tie as tie
 
 abbrev Inv-loop : tie.InvT-loop
-Inv-loop words deltas size count tail d₀ d = Probing size (hashIn words) tail count d
+Inv-loop words size count tail d₀ d = Probing size (hashIn words) tail count d
 
 abbrev μ-loop : tie.MeasureT-loop
-μ-loop words deltas size count tail d₀ d = count + 1 - d
+μ-loop words size count tail d₀ d = count + 1 - d
 
 loop-holds : tie.Need-loop-holds Inv-loop μ-loop
 loop-holds c = probing-start _ _ _ _ 1
@@ -24,7 +24,7 @@ cell-of-requires : tie.Need-cell-of-requires Inv-loop μ-loop
 cell-of-requires c κs = search needs
 
 hash-at-requires : tie.Need-hash-at-requires Inv-loop μ-loop
-hash-at-requires c κs = in-words (c .before .before .before .before .before .before .pre .0) _ (c .cell-of .ensures)
+hash-at-requires c κs = words-hold _ (c .before .before .before .before .before .args .words .now) _ (c .before .before .before .before .before .pre .1) (cell-lt _ _ _ (c .before .before .before .before .before .pre .0) (c .cell-of .ensures))
 
 returns : tie.Need-returns Inv-loop μ-loop
 returns c = probing-free _ _ _ _ _ (c .before .before .before .before .before .loop .inv) (c .before .before .before .before .loop-test .taken) _ _ _ (c .before .before .before .wrapping-add-u64 .ensures) (c .before .before .cell-of .ensures) (c .before .hash-at .ensures) (c .if1 .taken)

@@ -20,11 +20,8 @@ same-length-2 c = search needs
 returns : tie.Need-returns
 returns c = put-stale _ _ _ _ _ _ _ _ _ _ _ (c .before .before .before .walk-to .ensures) (sym (c .if1 .taken) ∙ c .before .is-found .ensures)
 
-cell-for-requires : tie.Need-cell-for-requires
-cell-for-requires c κs = search needs
-
-insert-stored-requires : tie.Need-insert-stored-requires
-insert-stored-requires c κs = search needs
+insert-after-requires : tie.Need-insert-after-requires
+insert-after-requires c κs = search needs
 
 tell-requires : tie.Need-tell-requires
 tell-requires c κs = search needs
@@ -36,7 +33,7 @@ same-length-4 : tie.Need-same-length-4
 same-length-4 c = search needs
 
 returns-2 : tie.Need-returns-2
-returns-2 c = put-inserted _ _ _ _ _ _ _ _ _ _ _ (c .before .before .before .before .before .before .before .before .before .before .before .before .before .before .walk-to .ensures) (sym (c .before .before .before .before .before .before .before .before .before .before .before .if1 .left) ∙ c .before .before .before .before .before .before .before .before .before .before .before .before .is-found .ensures) (c .before .before .before .before .before .before .before .before .cell-for .result) (c .before .before .before .before .before .before .before .before .cell-for .ensures _ _) (c .before .before .before .before .before .insert-stored .ensures) _ _ (c .tell .ensures .0) (c .tell .ensures .1)
+returns-2 c = put-inserted _ _ _ _ _ _ _ _ _ _ _ (c .before .before .before .before .before .before .before .before .before .before .before .walk-to .ensures) (sym (c .before .before .before .before .before .before .before .before .if1 .left) ∙ c .before .before .before .before .before .before .before .before .before .is-found .ensures) (c .before .before .before .before .before .insert-after .result .at) (c .before .before .before .before .before .insert-after .ensures .cell) (c .before .before .before .before .before .insert-after .ensures .done) _ _ (c .tell .ensures .0) (c .tell .ensures .1)
 
 pub put-spec : {M : Type 1} → statement M
 put-spec =
@@ -47,8 +44,7 @@ put-spec =
     same-length
     same-length-2
     returns
-    cell-for-requires
-    insert-stored-requires
+    insert-after-requires
     tell-requires
     same-length-3
     same-length-4

@@ -1,9 +1,8 @@
 -- `hashentry::vacant::tell` meets its contract. Assumes nothing.
 use borrow.Author.Needs.{needs}
 use mathlib.Core.Path.{sym, ap}
-use Rattle.cells.specs.Workers.{insertSaid}
+use Rattle.cells.specs.Workers.{insertSaid, placeBy}
 use Rattle.cells.specs.declared.insert.InsertSaid.{InsertSaid}
-use Rattle.hashentry.specs.Workers.{placeBy}
 use Rattle.hashentry.proofs.vacant.tell.Statement.{statement}
 use Rattle.hashentry.proofs.vacant.tell.Tie as tie
 
