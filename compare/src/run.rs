@@ -65,9 +65,19 @@ impl Judge {
         self.program.send(Batch { wanted: scene.into_iter().zip(answers).collect(), pair });
     }
 
+    /// A digest reads what is lent of the spare arrays too: what a scene left large there would slow every later one down.
+    fn lend_no_spare(&mut self) {
+        if self.served.spare.0 > 200 {
+            let scene = vec![scenes::ask(SPARE, &[0, 0])];
+            let played = self.play(&scene);
+            self.send(scene, played.answers, None);
+        }
+    }
+
     fn scenes(&mut self, name: &'static str, scenes: impl IntoIterator<Item = Scene>) {
         let before = self.figures.requests;
         for scene in scenes {
+            self.lend_no_spare();
             let played = self.play(&scene);
             self.send(scene, played.answers, None);
         }
@@ -78,6 +88,7 @@ impl Judge {
     fn checked(&mut self, name: &'static str, scenes: impl IntoIterator<Item = Checked>) {
         let before = self.figures.requests;
         for Checked { scene, expected } in scenes {
+            self.lend_no_spare();
             let played = self.play(&scene);
             assert_eq!(played.checks.len(), expected.len());
             for (expect, fails) in expected.iter().zip(&played.checks) {
@@ -95,6 +106,7 @@ impl Judge {
     fn pairs(&mut self, name: &'static str, pairs: impl IntoIterator<Item = Pair>) {
         let before = self.figures.requests;
         for pair in pairs {
+            self.lend_no_spare();
             let scene = pair.scene();
             let played = self.play(&scene);
             self.orders[0].hold(&pair, &played.answers);
