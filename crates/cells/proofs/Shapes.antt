@@ -1,8 +1,8 @@
 -- Within a shaped table the cell of any position lies within both slices. Assumes nothing.
 use mathlib.Core.Bool.{Bool, true, false, _&&_}
 use mathlib.Core.List.{List}
-use mathlib.Core.Path.{_≡_, refl, sym, ap, _∙_}
-use Prim.Native.Nat.{ℕ, _+_, _*_, _/_, _%_, _≤_, _<_}
+use mathlib.Core.Path.{_≡_, refl, ap, _∙_}
+use Prim.Native.Nat.{ℕ, _+_, _*_, _%_, _≤_, _<_}
 use native.Mathlib.Nat.{mod-lt}
 use native.Mathlib.Omega.{arith}
 use borrow.Author.Tests.{eqb-true, leb-true}
@@ -10,7 +10,7 @@ use lib.Dec.{eqb, leb}
 use lib.ListN.{length}
 use Rattle.rules.specs.Sizes.{isSize}
 use Rattle.steps.proofs.Sizes.{size-least, size-fours}
-use Rattle.cells.specs.Layout.{Shaped, isShaped, sizeIn, firstAt, secondAt, hashIn}
+use Rattle.cells.specs.Layout.{Shaped, isShaped, sizeIn, secondAt, hashIn}
 
 -- cell i of S cells
 pub words-hold : (S : ℕ) (ws : List ℕ) (i : ℕ) → 3 * S ≤ length ws → i < S → 3 * i + 2 < length ws

@@ -11,7 +11,7 @@ use lib.ListN.{length}
 use Rattle.hashers.specs.Keys.{hashOf}
 use Rattle.rules.specs.Sizes.{isSize}
 use Rattle.rules.specs.Cells.{Lent, shape}
-use Rattle.rules.specs.Answers.{nothing, Outcome, changed}
+use Rattle.rules.specs.Answers.{nothing, Outcome}
 use Rattle.rules.specs.Moves.{Held, heldAfter}
 use Rattle.rules.specs.Growing as rule
 use Rattle.rules.specs.Growing.{LentHalves, inUse}

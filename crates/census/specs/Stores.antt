@@ -7,7 +7,7 @@ use Rattle.rules.specs.Answers.{Outcome}
 use Rattle.rules.specs.Moves.{Ended, all, stop, MoveOutcome, move}
 use Rattle.rules.specs.Growing as rule
 use Rattle.rules.specs.Growing.{LentHalves, inUse, GrowOutcome}
-use Rattle.cells.specs.Layout.{sizeIn, isShaped, lent, leftBy}
+use Rattle.cells.specs.Layout.{sizeIn, isShaped, leftBy}
 use Rattle.moving.specs.Slices.{clearHeld, wordsBecome, deltasBecome}
 use Rattle.hashmap.specs.Answers as cleared
 use Rattle.hashmap.specs.Answers.{Cleared}

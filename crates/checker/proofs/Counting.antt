@@ -1,6 +1,6 @@
 -- The checker's loop over the cells: those passed so far passed the test, and the live ones are counted. Assumes nothing.
-use mathlib.Core.Bool.{Bool, true, false, cond, _&&_}
-use mathlib.Core.Path.{_≡_, refl, sym, ap, subst, _∙_}
+use mathlib.Core.Bool.{Bool, true, false, _&&_}
+use mathlib.Core.Path.{_≡_, refl}
 use Prim.Native.Nat.{ℕ, zero, suc, _+_, _≤_, _<_}
 use native.Mathlib.Nat.{add-comm}
 use native.Mathlib.Numerals.{add-one}
@@ -9,7 +9,7 @@ use native.Mathlib.Decide.{ℕ-discrete}
 use lib.Dec.{eqb}
 use Rattle.rules.specs.Cells.{Params, Cells, Counts, Lent, isLive, shape}
 use Rattle.rules.specs.Sound.{one, count}
-use Rattle.checker.specs.Check.{all, cellTest, soundTest, Check, sound, refused, checkRule}
+use Rattle.checker.specs.Check.{all, cellTest, soundTest, sound, refused, checkRule}
 
 module _ (test : ℕ → Bool) where
   pub all-none : all test 0 ≡ true

@@ -1,8 +1,8 @@
 -- The checker says yes exactly when a table is sound: its test is 01's eight rules, both ways. Assumes nothing.
 use mathlib.Core.Bool.{Bool, true, false, cond, not, _&&_}
 use mathlib.Core.List.{List, [], _∷_}
-use mathlib.Core.Logic.{_≢_, _⊎_, inl, inr, _↔_}
-use mathlib.Core.Path.{_≡_, refl, sym, ap, subst, _∙_}
+use mathlib.Core.Logic.{_≢_, inl, inr, _↔_}
+use mathlib.Core.Path.{_≡_, refl, sym}
 use Prim.Native.Nat.{ℕ, zero, suc, _+_, _-_, _%_, _≤_, _<_}
 use native.Mathlib.Decide.{ℕ-discrete}
 use native.Mathlib.Omega.{arith}
@@ -11,7 +11,7 @@ use lib.Dec.{eqb, leb, eqb·suc-zero}
 use Rattle.rules.specs.Sizes.{window, isSize}
 use Rattle.rules.specs.Cells.{Params, Cells, Counts, shape}
 use Rattle.rules.specs.Walk.{Stop, met, tail, broken, walk}
-use Rattle.rules.specs.Sound.{Taken, homeOf, Among, Chain, links, chainOf, OfHome, Clear, HashesKeys, ChainSound, Sound}
+use Rattle.rules.specs.Sound.{Taken, homeOf, Among, Chain, links, chainOf, OfHome, Clear, HashesKeys, Sound}
 use Rattle.cells.specs.Layout.{lent, sizeIn, isShaped}
 use Rattle.cells.specs.declared.Table.{Table}
 use Rattle.cells.proofs.Shapes.{passed}
@@ -19,7 +19,7 @@ use Rattle.sound.specs.State.{SoundTable}
 use Rattle.sound.specs.Stops.{MetAt, Wraps, OwnMet}
 use Rattle.sound.proofs.Positions.{size-wraps}
 use Rattle.sound.proofs.Own.{own-met-differ, own-met-reached, sound-own-met}
-use Rattle.checker.specs.Check.{all, ofHomeTest, chainTest, stopsAt, metTest, emptyTest, homeTest, takenTest, cellTest, soundTest, Check, sound, refused, checkRule}
+use Rattle.checker.specs.Check.{all, ofHomeTest, chainTest, stopsAt, metTest, emptyTest, homeTest, takenTest, cellTest, soundTest, sound, refused, checkRule}
 
 -- ---- Booleans
 

@@ -3,7 +3,7 @@ use mathlib.Core.Bool.{Bool, true, false, cond, not, _&&_}
 use Prim.Native.Nat.{ℕ, zero, suc, _+_, _-_, _%_}
 use lib.Dec.{eqb, leb}
 use Rattle.rules.specs.Sizes.{window}
-use Rattle.rules.specs.Cells.{Params, Cells, Counts, Lent, isTaken, isLive, shape}
+use Rattle.rules.specs.Cells.{Params, Cells, Counts, Lent, isLive, shape}
 use Rattle.rules.specs.Walk.{Stop, met, tail, broken, walk}
 use Rattle.rules.specs.Sound.{count}
 use Rattle.checker.specs.declared.CheckSaid.{CheckSaid}

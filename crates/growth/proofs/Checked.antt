@@ -7,7 +7,7 @@ use borrow.Author.Tests.{eq-eqb, ne-eqb}
 use Rattle.hashers.specs.Keys.{hashOf}
 use Rattle.hashers.specs.declared.Hasher.{Hasher}
 use Rattle.rules.specs.Cells.{shape, offered, zeroHash}
-use Rattle.rules.specs.Answers.{Said, refused}
+use Rattle.rules.specs.Answers.{refused}
 use Rattle.rules.specs.Moves.{stays}
 use Rattle.rules.specs.Growing as rule
 use Rattle.rules.specs.Growing.{LentHalves, inUse, GrowOutcome, refusedAt, start, rounds, mostRounds, grow}
@@ -18,10 +18,9 @@ use Rattle.halves.specs.declared.Half.the-variants.{Lower, Upper}
 use Rattle.halves.specs.declared.Growing.{Growing}
 use Rattle.halves.proofs.Checks.{Halves, Fits, passed, shape-passes, shape-fails}
 use Rattle.growth.specs.Rounds.{Sides}
-use Rattle.growth.specs.Growth.{Grown, GrownLeft, growSaid, grewFrom, roundsOn, grownBy, growLeft}
+use Rattle.growth.specs.Growth.{Grown, growSaid, grewFrom, roundsOn, grownBy, growLeft}
 use Rattle.growth.specs.declared.GrowSaid.{GrowSaid}
 use Rattle.growth.specs.declared.GrowSaid.the-variants as says
-use Rattle.growth.specs.declared.GrowAnswer.{GrowAnswer}
 
 -- ---- the rule's branches
 

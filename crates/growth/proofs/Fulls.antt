@@ -1,13 +1,13 @@
 -- A round's code, from its insert to what follows Full. Assumes nothing.
-use mathlib.Core.Bool.{Bool, true, false}
+use mathlib.Core.Bool.{true, false}
 use mathlib.Core.List.{List, [], _∷_}
-use mathlib.Core.Path.{_≡_, refl, sym, ap, subst, _∙_}
+use mathlib.Core.Path.{_≡_, refl, sym, ap, _∙_}
 use Prim.Native.Nat.{ℕ, _≤_}
 use native.Mathlib.Omega.{arith}
 use Rattle.hashers.specs.declared.Hasher.{Hasher}
 use Rattle.hashers.specs.declared.Hasher.the-variants.{Simple}
 use Rattle.rules.specs.Sizes.{isSize}
-use Rattle.rules.specs.Answers.{Said, refused, Change, Outcome}
+use Rattle.rules.specs.Answers.{refused, Change, Outcome}
 use Rattle.rules.specs.Calls.{insertStored}
 use Rattle.rules.specs.Growth.{sampled, sample, firstSize}
 use Rattle.rules.specs.Moves.{stays}
@@ -23,7 +23,7 @@ use Rattle.laws.proofs.Refusals.{stored-refused-leaves}
 use Rattle.sizing.proofs.Samples.{sample-most}
 use Rattle.sizing.proofs.Sizes.{first-size-power}
 use Rattle.growth.specs.Rounds as turns
-use Rattle.growth.specs.Rounds.{Power, TriedOn, triedOn, triedBy, TurnedOn, turnTried, answeredOn, fullOn, turnOn}
+use Rattle.growth.specs.Rounds.{Power, triedOn, triedBy, TurnedOn, turnTried, fullOn, turnOn}
 use Rattle.growth.specs.declared.Tried.{Tried}
 use Rattle.growth.specs.declared.Tried.the-variants as tried
 

@@ -1,19 +1,17 @@
 -- What the rounds of a growing insert keep from turn to turn. Assumes nothing.
 use mathlib.Core.Bool.{true}
-use mathlib.Core.List.{List, [], _∷_}
+use mathlib.Core.List.{List, []}
 use mathlib.Core.Path.{_≡_, refl, sym, ap, subst, _∙_}
-use Prim.Native.Nat.{ℕ, zero, suc, _+_, _*_, _≤_}
-use native.Mathlib.Nat.{add-zero, add-suc}
+use Prim.Native.Nat.{ℕ, suc, _+_, _*_, _≤_}
+use native.Mathlib.Nat.{add-zero}
 use native.Mathlib.Omega.{arith}
-use borrow.Author.Tests.{eqb-true}
-use lib.Dec.{eqb}
 use lib.ListN.{length, length-replicate}
 use Rattle.hashers.specs.Keys.{hashOf}
 use Rattle.hashers.specs.declared.Hasher.{Hasher}
 use Rattle.rules.specs.Sizes.{isSize}
 use Rattle.rules.specs.Cells.{Counts}
-use Rattle.rules.specs.Answers.{Said, Change}
-use Rattle.rules.specs.Moves.{Became, stays, cleared, Held, heldAfterAll, all, Ended, Moved, moveAll}
+use Rattle.rules.specs.Answers.{Change}
+use Rattle.rules.specs.Moves.{Became, cleared, heldAfterAll}
 use Rattle.rules.specs.Growing as rule
 use Rattle.rules.specs.Growing.{Round, GrowOutcome, withMove, roundAfter, otherHalf, mostRounds}
 use Rattle.steps.proofs.Sizes.{size-least}
@@ -25,15 +23,15 @@ use Rattle.halves.specs.Halves.{ofHalf}
 use Rattle.laws.specs.Full.{IsFull}
 use Rattle.growthlaws.specs.Tries.{MovedInto}
 use Rattle.growthlaws.specs.Rounds.{Enough}
-use Rattle.growthlaws.proofs.Rounds.{enough-one, enough-next, move-sized}
+use Rattle.growthlaws.proofs.Rounds.{enough-next, move-sized}
 use Rattle.growth.specs.Rounds as turns
-use Rattle.growth.specs.Rounds.{Halved, Sides, TurnedOn, turnOn, turnSides}
-use Rattle.growth.specs.Ends.{Still, turnSaid}
+use Rattle.growth.specs.Rounds.{Halved, Sides, TurnedOn}
+use Rattle.growth.specs.Ends.{turnSaid}
 use Rattle.growth.specs.Growth.{Grown, lowerOf, upperOf, grewFrom}
-use Rattle.growth.proofs.Turns.{roundAt, roundsFrom, inserted, first, TurnWay, answers, untried, all-full, breaks, moves, turn-way}
+use Rattle.growth.proofs.Turns.{roundAt, roundsFrom, inserted, first, moves}
 use Rattle.movelaws.proofs.Moved.{moved-live}
 use Rattle.movelaws.proofs.Fresh.{fresh-clear}
-use Rattle.growth.proofs.Still.{Moves, Ends, ends}
+use Rattle.growth.proofs.Still.{Ends}
 
 -- so many moves before
 abbrev pub movedOn : ℕ → Grown → Grown

@@ -1,9 +1,8 @@
 -- What the loop of the growing insert keeps, whatever the hasher. Assumes nothing.
 use mathlib.Core.Bool.{true}
-use mathlib.Core.List.{List, []}
+use mathlib.Core.List.{List}
 use mathlib.Core.Path.{_≡_, refl, sym, ap, subst, _∙_}
 use Prim.Native.Nat.{ℕ, _+_, _<_}
-use native.Mathlib.Omega.{arith}
 use lib.ListN.{length}
 use Rattle.hashers.specs.declared.Hasher.{Hasher}
 use Rattle.hashers.specs.declared.Hasher.the-variants.{Simple}
@@ -11,10 +10,9 @@ use Rattle.rules.specs.Sizes.{isSize}
 use Rattle.rules.specs.Answers.{Said}
 use Rattle.rules.specs.Growing as rule
 use Rattle.rules.specs.Growing.{otherHalf, mostRounds}
-use Rattle.growth.specs.Rounds as turns
 use Rattle.growth.specs.Rounds.{Sides, TurnedOn, turnSides, roundEnd}
 use Rattle.growth.specs.Ends.{Still, turnSaid}
-use Rattle.growth.specs.Growth.{Grown, grewFrom, roundsOn}
+use Rattle.growth.specs.Growth.{grewFrom, roundsOn}
 use Rattle.growth.specs.declared.RoundEnd.{RoundEnd}
 use Rattle.growth.specs.declared.RoundEnd.the-variants as ends
 use Rattle.growth.proofs.Still.{Moves}

@@ -1,9 +1,8 @@
 -- The rounds of a growing insert with the halves in their places: how they begin, go on and end. Assumes nothing.
 use mathlib.Core.Bool.{true}
-use mathlib.Core.List.{List, [], _∷_}
+use mathlib.Core.List.{List, []}
 use mathlib.Core.Path.{_≡_, refl, sym, ap, subst, _∙_}
-use Prim.Native.Nat.{ℕ, zero, suc, _+_, _≤_, _<_}
-use native.Mathlib.Nat.{add-zero, add-suc}
+use Prim.Native.Nat.{ℕ, suc, _+_, _<_}
 use native.Mathlib.Omega.{arith}
 use lib.ListN.{length}
 use Rattle.hashers.specs.Keys.{hashOf}
@@ -11,18 +10,18 @@ use Rattle.hashers.specs.declared.Hasher.{Hasher}
 use Rattle.rules.specs.Sizes.{isSize}
 use Rattle.rules.specs.Moves.{Became, stays, cleared}
 use Rattle.rules.specs.Growing as rule
-use Rattle.rules.specs.Growing.{Round, GrowOutcome, withMove, otherHalf, mostRounds}
-use Rattle.cells.specs.Layout.{null, countsOf}
+use Rattle.rules.specs.Growing.{GrowOutcome, withMove, otherHalf, mostRounds}
+use Rattle.cells.specs.Layout.{null}
 use Rattle.moving.specs.Slices.{clearHeld}
 use Rattle.halves.specs.Halves.{ofHalf}
 use Rattle.growthlaws.specs.Rounds.{Enough}
 use Rattle.growthlaws.proofs.Rounds.{enough-one, start-enough}
 use Rattle.growth.specs.Rounds as turns
-use Rattle.growth.specs.Rounds.{Halved, Sides, TurnEnd, TurnedOn, turnOn, turnSides, swapped}
+use Rattle.growth.specs.Rounds.{Halved, Sides, TurnEnd, TurnedOn, turnOn, turnSides}
 use Rattle.growth.specs.Ends.{Still}
 use Rattle.growth.specs.Growth.{Grown, grewFrom, roundsOn}
 use Rattle.growth.proofs.Turns.{roundAt, roundsFrom, TurnWay, answers, untried, all-full, breaks, moves, turn-way}
-use Rattle.growth.proofs.Still.{Moves, Ends, ends}
+use Rattle.growth.proofs.Still.{Moves, ends}
 use Rattle.growth.proofs.Going.{movedOn, Going, Final, final-lower, final-upper, MovedTo, moved-to}
 
 -- the size that a round moved to

@@ -1,15 +1,12 @@
 -- A round that does not move: what it leaves is what the rules say of the whole call. Assumes nothing.
-use mathlib.Core.Bool.{true, false}
 use mathlib.Core.List.{List, [], _∷_, _++_}
 use mathlib.Core.Path.{_≡_, refl, sym, ap, _∙_}
 use Prim.Native.Nat.{ℕ}
-use lib.ListN.{length}
 use Rattle.hashers.specs.declared.Hasher.{Hasher}
-use Rattle.rules.specs.Cells.{Counts}
-use Rattle.rules.specs.Answers.{Said, Change, Outcome}
+use Rattle.rules.specs.Answers.{Change}
 use Rattle.rules.specs.Moves.{Became, stays, cleared}
 use Rattle.rules.specs.Growing as rule
-use Rattle.rules.specs.Growing.{Round, GrowOutcome, andThen}
+use Rattle.rules.specs.Growing.{GrowOutcome, andThen}
 use Rattle.cells.specs.Layout.{wordsAfter, deltasAfter, freshWords, freshDeltas}
 use Rattle.moving.specs.Slices.{wordsAfterAll, deltasAfterAll, wordsBecome, deltasBecome}
 use Rattle.growth.specs.Rounds as turns

@@ -2,7 +2,7 @@
 use mathlib.Core.Bool.{true}
 use mathlib.Core.List.{List, [], _∷_}
 use mathlib.Core.Path.{_≡_, refl, sym, ap, subst, _∙_}
-use Prim.Native.Nat.{ℕ, zero, suc, _+_, _*_, _^_, _≤_, _<_}
+use Prim.Native.Nat.{ℕ, zero, suc, _*_, _^_, _≤_, _<_}
 use native.Mathlib.Nat.{mul-comm, pow-suc}
 use native.Mathlib.Omega.{arith}
 use borrow.Author.Tests.{le-leb}
@@ -11,12 +11,11 @@ use lib.Pow.{pow-mono}
 use Rattle.rules.specs.Sizes.{leastLog, isSize}
 use Rattle.rules.specs.Cells.{Counts}
 use Rattle.rules.specs.Moves.{Held, Became, stays, cleared, Ended, all, stop, Moved, moveAll, moveEnd}
-use Rattle.rules.specs.Growing as rule
 use Rattle.rules.specs.Growing.{Tries, tries, sizes}
 use Rattle.steps.proofs.Sizes.{size-greatest}
 use Rattle.cells.specs.Layout.{null, countsOf, freshWords, freshDeltas}
 use Rattle.cells.specs.declared.insert.FullAt.{FullAt}
-use Rattle.moving.specs.Slices.{heldIn, clearHeld, wordsAfterAll, deltasAfterAll, wordsBecome, deltasBecome}
+use Rattle.moving.specs.Slices.{heldIn, clearHeld, wordsAfterAll, deltasAfterAll}
 use Rattle.moving.specs.Ends.{Into, intoBy, endOf}
 use Rattle.moving.specs.declared.MoveEnd.{MoveEnd}
 use Rattle.moving.specs.declared.MoveEnd.the-variants.{All, Full, Broken}

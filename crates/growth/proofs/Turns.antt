@@ -1,8 +1,8 @@
 -- One round on the slices, beside the same round of the rules. Assumes nothing.
 use mathlib.Core.Bool.{Bool, true, false}
 use mathlib.Core.List.{List, []}
-use mathlib.Core.Path.{_≡_, refl, sym, ap, _∙_}
-use Prim.Native.Nat.{ℕ, zero, suc, _≤_, _<_}
+use mathlib.Core.Path.{_≡_, refl, _∙_}
+use Prim.Native.Nat.{ℕ, zero, suc, _≤_}
 use native.Mathlib.Omega.{arith}
 use Rattle.hashers.specs.Keys.{hashOf}
 use Rattle.hashers.specs.declared.Hasher.{Hasher}
@@ -13,7 +13,7 @@ use Rattle.rules.specs.Calls.{insertStored}
 use Rattle.rules.specs.Growth.{sample, firstSize}
 use Rattle.rules.specs.Moves.{Became, stays, cleared}
 use Rattle.rules.specs.Growing as rule
-use Rattle.rules.specs.Growing.{Tries, tries, sizes, Round, GrowOutcome, answered, refusedAt, withMove, roundAfter, roundTries, carriedBy, isFull, rounds}
+use Rattle.rules.specs.Growing.{Tries, tries, sizes, Round, GrowOutcome, answered, refusedAt, withMove, roundAfter, carriedBy, isFull, rounds}
 use Rattle.cells.specs.Layout.{null, view, valueIn, paramsOf, countsOf, freshWords, freshDeltas}
 use Rattle.moving.specs.Slices.{heldIn, clearHeld, wordsAfterAll, deltasAfterAll}
 use Rattle.laws.specs.Full.{IsFull}

@@ -1,12 +1,12 @@
 -- The tries and the rounds of the growing insert, on the slices of the two halves.
-use mathlib.Core.Bool.{Bool, true, cond}
-use mathlib.Core.List.{List, [], _∷_}
+use mathlib.Core.Bool.{true, cond}
+use mathlib.Core.List.{List, []}
 use mathlib.Core.Path.{_≡_}
 use Prim.Native.Nat.{ℕ, _*_, _^_, _≤_}
 use lib.ListN.{length}
 use Rattle.hashers.specs.declared.Hasher.{Hasher}
 use Rattle.rules.specs.Sizes.{leastLog, isSize}
-use Rattle.rules.specs.Cells.{Params, Counts}
+use Rattle.rules.specs.Cells.{Counts}
 use Rattle.rules.specs.Answers.{Said, Outcome}
 use Rattle.rules.specs.Calls.{insertStored}
 use Rattle.rules.specs.Moves.{stays}

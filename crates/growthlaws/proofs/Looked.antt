@@ -3,7 +3,7 @@ use mathlib.Core.Bool.{true}
 use mathlib.Core.Path.{_≡_}
 use Prim.Native.Nat.{ℕ, zero, suc, _+_, _≤_}
 use native.Mathlib.Omega.{arith}
-use Rattle.rules.specs.Sizes.{isSize, window, probeLimit}
+use Rattle.rules.specs.Sizes.{isSize, probeLimit}
 use Rattle.rules.specs.Moves.{Held}
 use Rattle.rules.specs.Growing.{LentHalves, Round, GrowOutcome, roundAfter, rounds, mostRounds, start, grow}
 use Rattle.steps.proofs.Sizes.{size-least}

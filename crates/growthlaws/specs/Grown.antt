@@ -6,7 +6,7 @@ use Prim.Native.Nat.{ℕ, _*_, _≤_}
 use Rattle.rules.specs.Sizes.{isSize}
 use Rattle.rules.specs.Cells.{shape, offered, zeroHash}
 use Rattle.rules.specs.Answers.{Outcome}
-use Rattle.rules.specs.Moves.{Held, heldAfter, Became, stays, cleared}
+use Rattle.rules.specs.Moves.{heldAfter, Became, stays, cleared}
 use Rattle.movelaws.specs.Plain.{heldBecome}
 use Rattle.rules.specs.Growing.{Half, otherHalf, LentHalves, inUse, GrowOutcome, refusedAt, rounds, mostRounds, start}
 use Rattle.movelaws.specs.Carried.{IsClear}

@@ -3,7 +3,7 @@ use mathlib.Core.List.{[], map}
 use mathlib.Core.Path.{_≡_}
 use Prim.Native.Nat.{ℕ}
 use Rattle.hashers.specs.Writes.{taken, simpleWrite, murmurWrite, fnvWrite, fnvStart}
-use Rattle.rules.specs.Cells.{Params, Cells, isLive}
+use Rattle.rules.specs.Cells.{Cells, isLive}
 use Rattle.rules.specs.Sound.{count}
 use Rattle.rules.specs.Growth.{sample, firstSize}
 use Rattle.laws.specs.Examples as fixed

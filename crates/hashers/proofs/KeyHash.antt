@@ -4,7 +4,7 @@ use Prim.Native.Nat.{ℕ, _^_, _<_}
 use lib.Dec.{lit<}
 use Rattle.util.specs.Bytes.{bytesOf}
 use Rattle.util.proofs.Loading.{number-bytesOf}
-use Rattle.hashers.specs.Published.{fold33, fmix64, fnv1a, fnvOffset}
+use Rattle.hashers.specs.Published.{fold33, fmix64, fnvOffset}
 use Rattle.hashers.specs.Writes.{taken, replaceBy, simpleWrite, murmurWrite, fnvWrite, fnvStart}
 use Rattle.hashers.specs.Keys.{hashOf}
 use Rattle.hashers.specs.declared.Hasher.{Hasher}

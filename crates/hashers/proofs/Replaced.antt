@@ -1,5 +1,5 @@
 -- What a load says decides what a write to Simple or Murmur says. Assumes nothing.
-use mathlib.Core.Path.{_≡_, refl, sym, ap, _∙_}
+use mathlib.Core.Path.{_≡_, refl, ap}
 use mathlib.Core.Bool.{Bool, true, false, cond}
 use mathlib.Core.List.{List}
 use Prim.Native.Nat.{ℕ}
@@ -8,7 +8,7 @@ use lib.Dec.{leb}
 use lib.ListN.{length}
 use Rattle.util.specs.Bytes.{number, load, is}
 use Rattle.util.specs.Bytes as bytes
-use Rattle.hashers.specs.Writes.{Wrote, taken, refused, replaceBy}
+use Rattle.hashers.specs.Writes.{taken, refused, replaceBy}
 
 module _ (f : ℕ → ℕ) (state : ℕ) (s : List ℕ) where
   pub of-number : (n : ℕ) → is n ≡ load s → taken (f n) ≡ replaceBy f state s

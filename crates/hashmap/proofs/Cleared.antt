@@ -1,13 +1,13 @@
 -- The two branches of clear. Assumes nothing.
 use mathlib.Core.Bool.{true, false}
 use mathlib.Core.List.{List}
-use mathlib.Core.Path.{_≡_, sym, ap, _∙_}
-use Prim.Native.Nat.{ℕ, _*_}
+use mathlib.Core.Path.{_≡_, ap, _∙_}
+use Prim.Native.Nat.{ℕ}
 use lib.ListN.{length, replicate}
 use Rattle.hashers.specs.declared.Hasher.{Hasher}
-use Rattle.cells.specs.Layout.{isShaped, sizeIn, freshWords, freshDeltas}
+use Rattle.cells.specs.Layout.{isShaped, sizeIn, freshWords}
 use Rattle.cells.proofs.Shapes.{exact-lengths}
-use Rattle.hashmap.specs.Answers.{Cleared, cleared, refuses, clearRule}
+use Rattle.hashmap.specs.Answers.{cleared, refuses, clearRule}
 
 module _ (ws ds : List ℕ) (hasher : Hasher) where
   pub clears : isShaped ws ds ≡ true → (ws′ ds′ : List ℕ) → ws′ ≡ freshWords (sizeIn ds) → ds′ ≡ replicate {A = ℕ} (length ds) 0

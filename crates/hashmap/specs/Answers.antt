@@ -1,6 +1,6 @@
 -- Each case of each answer, by 01's number and values; and what a call left.
 use mathlib.Core.Bool.{cond}
-use mathlib.Core.List.{List, [], _∷_}
+use mathlib.Core.List.{List, []}
 use Prim.Native.Nat.{ℕ}
 use Rattle.hashers.specs.declared.Hasher.{Hasher}
 use Rattle.rules.specs.Answers.{Said, found, absent, removed, refused, Answer}

@@ -1,7 +1,6 @@
 -- Where an insert into a built table is Full, the tail and its whole window are taken: 129 cells, or all at sizes up to 128. Assumes
 -- nothing.
 use mathlib.Core.Bool.{Bool, true, false, not, _&&_, and-true, and-false}
-use mathlib.Core.List.{List, [], _∷_}
 use mathlib.Core.Logic.{_≢_, _⊎_, inl, inr}
 use mathlib.Core.Path.{_≡_, refl, sym, ap, _∙_}
 use Prim.Native.Nat.{ℕ, zero, suc, _+_, _-_, _%_, _≤_, _<_}
@@ -12,16 +11,13 @@ use borrow.Author.Tests.{eq-eqb, ne-eqb}
 use lib.Dec.{eqb}
 use Rattle.rules.specs.Sizes.{window}
 use Rattle.rules.specs.Cells.{Params, Cells, isTaken}
-use Rattle.rules.specs.Walk.{walk}
-use Rattle.rules.specs.Sound.{Taken, Among, OfHome, count}
+use Rattle.rules.specs.Sound.{Taken, count}
 use Rattle.laws.specs.Full.{FullWhen}
 use Rattle.sound.proofs.Room.{tail-taken}
 use Rattle.sound.specs.Built.{Built}
 use Rattle.sound.specs.Stops.{Wraps}
 use Rattle.sound.proofs.Counts.{count-one}
-use Rattle.sound.proofs.Chains.{lastOf, last-among}
 use Rattle.sound.proofs.Positions.{position-cell}
-use Rattle.sound.proofs.Meeting.{Looked, held, lacked, home-chained, looked-home}
 
 -- ---- counting
 

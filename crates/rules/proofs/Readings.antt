@@ -5,9 +5,9 @@ use mathlib.Core.Path.{_≡_, refl}
 use Prim.Native.Nat.{ℕ, _-_, _^_}
 use lib.ListN.{getD}
 use Rattle.rules.specs.Sizes.{isPower, isSize}
-use Rattle.rules.specs.Cells.{Params, Cells, Counts, Lent}
+use Rattle.rules.specs.Cells.{Lent}
 use Rattle.rules.specs.Walk.{follow, walk, probe}
-use Rattle.rules.specs.Answers.{Said, found, absent, new, replaced, revived, removed, refused, unlinked, asFirst, asSecond, nothing, store, fill, Answer, Outcome, leave, settle}
+use Rattle.rules.specs.Answers.{Said, found, absent, new, replaced, removed, refused, unlinked, asSecond, store, fill, Answer, leave, settle}
 use Rattle.rules.specs.Calls.{findIn, find, removeIn, remove, insertSeen, insertMet, insertStored, insert}
 
 -- a table of 8 cells under Simple, with null 99: each column by its cells

@@ -5,8 +5,8 @@ use Prim.Native.Nat.{ℕ, _+_, _%_}
 use lib.Dec.{eqb}
 use lib.ListN.{length}
 use Rattle.rules.specs.Sizes.{window}
-use Rattle.rules.specs.Cells.{Params, Cells, Counts, Lent, shape, offered, zeroHash}
-use Rattle.rules.specs.Walk.{Stop, met, tail, broken, Walk, walk, on, Hit, free, none, probeFrom}
+use Rattle.rules.specs.Cells.{Cells, Counts, Lent, shape, offered, zeroHash}
+use Rattle.rules.specs.Walk.{Stop, met, tail, broken, walk, on, Hit, free, none, probeFrom}
 use Rattle.rules.specs.Answers.{Said, found, absent, new, replaced, revived, removed, refused, Link, unlinked, asFirst, asSecond, store, fill, Answer, Outcome, leave, unless, unlessFound, settle}
 
 -- ---- find

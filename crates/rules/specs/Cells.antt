@@ -1,5 +1,5 @@
 -- What is lent, whatever its layout: readers of the cells, and the record's counts.
-use mathlib.Core.Bool.{Bool, true, false, cond, not, _&&_}
+use mathlib.Core.Bool.{Bool, cond, not, _&&_}
 use Prim.Native.Nat.{ℕ}
 use lib.Dec.{eqb, leb}
 

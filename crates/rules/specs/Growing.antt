@@ -1,14 +1,14 @@
 -- The two halves, and the insert that grows.
-use mathlib.Core.Bool.{Bool, true, false, cond, _&&_}
+use mathlib.Core.Bool.{Bool, false, cond, _&&_}
 use mathlib.Core.List.{List, [], _∷_, _++_}
 use Prim.Native.Nat.{ℕ, zero, suc, _+_, _-_, _*_}
 use lib.Dec.{eqb, leb}
 use Rattle.rules.specs.Sizes.{leastLog, greatestLog, isSize}
-use Rattle.rules.specs.Cells.{Params, Cells, Counts, Lent, shape, offered, zeroHash}
+use Rattle.rules.specs.Cells.{Params, Counts, Lent, shape, offered, zeroHash}
 use Rattle.rules.specs.Answers.{Said, found, absent, new, replaced, revived, removed, refused, Change, Outcome}
 use Rattle.rules.specs.Calls.{insertStored}
 use Rattle.rules.specs.Growth.{sample, firstSize}
-use Rattle.rules.specs.Moves.{Held, heldAfterAll, Became, stays, cleared, Ended, all, stop, Moved, moveAll}
+use Rattle.rules.specs.Moves.{Held, heldAfterAll, Became, stays, cleared, Ended, all, stop, moveAll}
 
 -- which half is in use
 pub data Half : Type 0 where

@@ -4,7 +4,7 @@ use mathlib.Core.List.{List, [], _∷_}
 use Prim.Native.Nat.{ℕ, zero, suc, _+_}
 use lib.Dec.{eqb}
 use Rattle.rules.specs.Cells.{Cells, Counts, Lent, shape}
-use Rattle.rules.specs.Answers.{Said, found, absent, new, replaced, revived, removed, refused, Change, Outcome, changed, valueChanged}
+use Rattle.rules.specs.Answers.{Said, found, absent, new, replaced, revived, removed, refused, Change, changed, valueChanged}
 use Rattle.rules.specs.Calls.{insertStored}
 
 -- what cells hold: what a walk reads, and the values

@@ -3,11 +3,11 @@
 use mathlib.Core.Bool.{Bool, true, false, cond, _&&_}
 use mathlib.Core.List.{List}
 use mathlib.Core.Path.{_≡_, refl, sym, ap, subst, _∙_}
-use Prim.Native.Nat.{ℕ, zero, suc, _+_, _*_, _/_, _<_}
+use Prim.Native.Nat.{ℕ, _+_, _*_, _/_, _<_}
 use native.Mathlib.Omega.{arith}
 use borrow.Author.Tests.{eq-eqb}
 use lib.Dec.{leb}
-use lib.ListN.{length, getD, set, length-set, length-replicate, getD-replicate}
+use lib.ListN.{length, set, length-set, length-replicate, getD-replicate}
 use Rattle.hashers.specs.declared.Hasher.{Hasher}
 use Rattle.rules.specs.Sizes.{isSize}
 use Rattle.rules.specs.Cells.{Lent, shape}
@@ -15,7 +15,7 @@ use Rattle.rules.specs.Answers.{unlinked, asFirst, asSecond, Change, nothing, s
 use Rattle.rules.specs.Calls.{insert, remove}
 use Rattle.rules.specs.Sound.{Fresh}
 use Rattle.cells.specs.declared.Table.{Table}
-use Rattle.cells.specs.Layout.{null, firstAt, secondAt, valueIn, view, sizeIn, isShaped, paramsOf, countsOf, lent, freshWords, freshDeltas, wordsAfter, deltasAfter, doneBy, leftBy}
+use Rattle.cells.specs.Layout.{firstAt, secondAt, valueIn, view, sizeIn, isShaped, paramsOf, countsOf, lent, freshWords, freshDeltas, wordsAfter, deltasAfter, doneBy, leftBy}
 use Rattle.cells.proofs.Clearing.{fresh-length, fresh-at}
 use Rattle.cells.proofs.Shapes.{passed, deltas-hold}
 use Rattle.laws.proofs.Lent.{Viewed, lent-insert-viewed, lent-remove-viewed}

@@ -1,16 +1,12 @@
 -- Setting a value: what each answer means, and that it touches the state of the cell's key alone. Assumes nothing.
-use mathlib.Core.Bool.{Bool, true, false, not, _&&_}
 use mathlib.Core.List.{List}
 use mathlib.Core.Logic.{_≢_, _↔_}
 use mathlib.Core.Path.{_≡_, refl, sym, ap, _∙_}
 use Prim.Native.Nat.{ℕ, _<_}
 use native.Mathlib.Omega.{arith}
-use borrow.Author.Tests.{eqb-false}
-use lib.Dec.{eqb}
-use Rattle.rules.specs.Cells.{Params, Cells, Lent, isLive, shape}
+use Rattle.rules.specs.Cells.{Lent, shape}
 use Rattle.rules.specs.Answers.{Said, absent, replaced, refused, Outcome, leave}
 use Rattle.rules.specs.Cursor.{setValue}
-use Rattle.rules.specs.Sound.{Taken}
 use Rattle.laws.specs.Left.{Leaves}
 use Rattle.sound.specs.State.{liveCell, stateWith, stateOf, after, SoundTable}
 use Rattle.sound.proofs.Filling.{changed-own}

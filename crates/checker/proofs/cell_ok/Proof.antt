@@ -2,9 +2,7 @@
 use borrow.Author.Needs.{needs}
 use borrow.Author.Tests.{eq-eqb, ne-eqb, le-leb, lt-leb, not-true, not-false}
 use native.Mathlib.Omega.{arith}
-use mathlib.Core.Path.{_≡_, sym, _∙_}
-use Prim.Native.Nat.{_≤_, _<_}
-use Rattle.rules.specs.Sizes.{window}
+use mathlib.Core.Path.{sym, _∙_}
 use Rattle.steps.proofs.Sizes.{size-least}
 use Rattle.cells.proofs.Shapes.{deltas-hold}
 use Rattle.checker.specs.Check.{cellTest}

@@ -3,7 +3,7 @@ use borrow.Author.Needs.{needs}
 use borrow.Author.Tests.{not-true, not-false}
 use native.Mathlib.Omega.{arith}
 use mathlib.Core.Path.{_≡_, refl, sym, _∙_}
-use Prim.Native.Nat.{ℕ, suc, _-_, _%_}
+use Prim.Native.Nat.{suc, _-_, _%_}
 use lib.ListN.{getD}
 use Rattle.steps.proofs.Sizes.{size-least}
 use Rattle.cells.specs.Layout.{view, firstAt}

@@ -1,8 +1,7 @@
 -- `checker::of_home` meets its contract. Assumes nothing.
 use borrow.Author.Needs.{needs}
 use borrow.Author.Tests.{eq-eqb, ne-eqb}
-use mathlib.Core.Path.{sym, ap, _∙_}
-use Prim.Native.Nat.{ℕ, _%_}
+use mathlib.Core.Path.{sym, _∙_}
 use Rattle.checker.proofs.of_home.Statement.{statement}
 use Rattle.checker.proofs.of_home.Tie as tie
 

@@ -1,8 +1,7 @@
 -- `checker::taken_ok` meets its contract. Assumes nothing.
 use borrow.Author.Needs.{needs}
 use borrow.Author.Tests.{eq-eqb, ne-eqb, not-true, not-false}
-use mathlib.Core.Path.{_≡_, sym, ap, _∙_}
-use Prim.Native.Nat.{ℕ}
+use mathlib.Core.Path.{sym, ap, _∙_}
 use Rattle.hashers.specs.Keys.{hashOf}
 use Rattle.cells.proofs.Shapes.{deltas-hold}
 use Rattle.checker.specs.Check.{takenTest}

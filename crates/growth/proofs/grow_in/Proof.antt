@@ -1,9 +1,8 @@
 -- `growth::grow_in` meets its contract. Assumes nothing.
 use borrow.Author.Needs.{needs}
-use denote.Ref.{now}
 use mathlib.Core.Logic.{⊎-elim}
 use mathlib.Core.Path.{refl}
-use Prim.Native.Nat.{ℕ, _-_}
+use Prim.Native.Nat.{_-_}
 use native.Mathlib.Omega.{arith}
 use Rattle.rules.specs.Growing.{mostRounds}
 use Rattle.halves.specs.Halves.{halfOf}

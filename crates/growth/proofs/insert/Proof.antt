@@ -1,6 +1,6 @@
 -- `growth::insert` meets its contract. Assumes nothing.
 use denote.Ref.{now}
-use mathlib.Core.Path.{_≡_, sym, ap, _∙_}
+use mathlib.Core.Path.{sym, ap, _∙_}
 use borrow.Author.Needs.{needs}
 use Rattle.cells.specs.Layout.{offeredBy}
 use Rattle.growth.specs.Growth.{grownBy}

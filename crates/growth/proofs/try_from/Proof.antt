@@ -1,9 +1,8 @@
 -- `growth::try_from` meets its contract. Assumes nothing.
 use borrow.Author.Needs.{needs}
 use mathlib.Core.Path.{refl}
-use Prim.Native.Nat.{ℕ, _+_, _-_, _≤_}
+use Prim.Native.Nat.{_+_, _-_}
 use native.Mathlib.Omega.{arith}
-use denote.Ref.{now}
 use Rattle.steps.proofs.Sizes.{size-greatest}
 use Rattle.growth.proofs.Tries.{Trying, trying, fits, all-over, broke, again, over, grows}
 use Rattle.growth.proofs.try_from.Statement.{statement}

@@ -1,6 +1,6 @@
 -- `hashers::hash_of` meets its contract. Assumes nothing.
 use borrow.Author.Needs.{needs}
-use mathlib.Core.Path.{_≡_, sym, ap, _∙_}
+use mathlib.Core.Path.{sym, ap, _∙_}
 use Rattle.hashers.specs.Keys.{hashOf}
 use Rattle.hashers.specs.declared.Hasher.{Hasher}
 use Rattle.hashers.proofs.hash_of.Statement.{statement}

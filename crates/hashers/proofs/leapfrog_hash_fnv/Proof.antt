@@ -1,6 +1,6 @@
 -- `hashers::leapfrog_hash_fnv` meets its contract. Assumes nothing.
 use borrow.Author.Needs.{needs}
-use mathlib.Core.Path.{_≡_, ap, _∙_}
+use mathlib.Core.Path.{ap}
 use Rattle.hashers.specs.declared.fnv.FnvHasher.{FnvHasher}
 use Rattle.hashers.proofs.leapfrog_hash_fnv.Statement.{statement}
 use Rattle.hashers.proofs.leapfrog_hash_fnv.Tie as tie

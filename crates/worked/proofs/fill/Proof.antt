@@ -1,6 +1,6 @@
 -- `worked::fill` keeps the slices' lengths. Assumes nothing.
 use borrow.Author.Needs.{needs}
-use mathlib.Core.Path.{_≡_, refl, _∙_}
+use mathlib.Core.Path.{_≡_, _∙_}
 use Prim.Native.Nat.{_-_}
 use lib.ListN.{length}
 use Rattle.worked.proofs.fill.Statement.{statement}

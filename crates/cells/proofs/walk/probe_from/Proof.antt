@@ -1,6 +1,5 @@
 -- `cells::walk::probe_from` meets its contract: at each turn the probe is what is left of it. Assumes nothing.
 use borrow.Author.Needs.{needs}
-use native.Mathlib.Omega.{arith}
 use Prim.Native.Nat.{_+_, _-_}
 use Rattle.steps.proofs.Probing.{Probing, probing-start, probing-end, probing-free, probing-on}
 use Rattle.cells.specs.Layout.{hashIn}

@@ -1,6 +1,6 @@
 -- `hashers::MurmurHasher::write` meets its contract. Assumes nothing.
 use borrow.Author.Needs.{needs}
-use mathlib.Core.Path.{_≡_, sym, ap, _∙_}
+use mathlib.Core.Path.{sym, ap, _∙_}
 use Rattle.util.specs.Bytes.{said}
 use Rattle.hashers.specs.Published.{fmix64}
 use Rattle.hashers.specs.Writes.{taken}
