@@ -46,6 +46,19 @@ pub fn wrapped(to: u64) -> Vec<Scene> {
     vec![plain, grown]
 }
 
+/// What a move has to clear, and what it must not take over: words and deltas past the table in both halves of a growing one;
+/// in plain moves a value under hash 0, and a key that two cells hold, neither counted in live.
+pub fn forged() -> Vec<Scene> {
+    let mut past = halves(16, 8, Hasher::Simple, true);
+    past.extend((1..=8).map(|key| ask(GROW, &[key, key])));
+    past.extend((1..=4).map(|key| ask(GROW_REMOVE, &[key])));
+    past.extend([ask(WORD, &[36, 55]), ask(DELTA, &[24, 5]), ask(SPARE_WORD, &[37, 77]), ask(SPARE_DELTA, &[25, 3]), ask(GROW, &[9, 9])]);
+    let mut plain = table(8, Hasher::Simple, true);
+    plain.extend([ask(INSERT, &[1, 10]), ask(INSERT, &[2, 20]), ask(SPARE, &[48, 32])]);
+    plain.extend([ask(WORD, &[17, 7]), ask(MOVE, &[]), ask(WORD, &[15, 1]), ask(WORD, &[16, 1]), ask(MOVE, &[])]);
+    vec![past, plain]
+}
+
 /// A run of 129 taken cells from `from` on in a table of `size` cells, of which `live` of the last 64 stay live: the next key of
 /// its first home is Full, and the sample counts so many.
 fn crowded(random: &mut Random, from: u64, live: u64) -> Scene {
@@ -53,6 +66,23 @@ fn crowded(random: &mut Random, from: u64, live: u64) -> Scene {
     let mut scene: Scene = keys.iter().map(|key| grow(random, *key)).collect();
     scene.extend(keys[..129 - live as usize].iter().map(|key| ask(GROW_REMOVE, &[*key])));
     scene.push(grow(random, from + (1000 << 32)));
+    scene
+}
+
+/// Samples that decide between two first sizes, under Simple. Of the 64 cells 17 are live, the first and the last among them: the
+/// table keeps its size, and with 16 it would not. Then of the next 64 none is live, while 41 keys are: the first size is 8, and the
+/// fourth try goes through.
+pub fn sampled(random: &mut Random) -> Scene {
+    let (from, high) = (1 + random.below(10), 1 << 32);
+    let remove = |i: u64| ask(GROW_REMOVE, &[from + i]);
+    let mut scene = halves(512, 256, Hasher::Simple, false);
+    scene.extend((0..129).map(|i| grow(random, from + i)));
+    scene.extend((0..113).filter(|i| *i != 65).map(remove));
+    scene.push(grow(random, from + high));
+    scene.extend((129..242).map(|i| grow(random, from + i)));
+    scene.extend((152..242).map(remove));
+    scene.push(grow(random, from + 113 + high));
+    scene.extend([ask(GROW_FIND, &[from + 151]), ask(PARTS, &[]), ask(GROW_CHECK, &[]), ask(DIGEST, &[])]);
     scene
 }
 

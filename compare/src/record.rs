@@ -71,7 +71,7 @@ fn list(random: &mut Random) -> Vec<(&'static str, Vec<Scene>)> {
         ("the same spoilt in one place and another, checked", unsound),
         ("lists, each followed by a reordering", pairs),
     ];
-    [all, growth(random), held(random)].concat()
+    [all, growth(random), held(random), for_faults(random)].concat()
 }
 
 /// Scenes of the cursor, of setting and of entries.
@@ -114,6 +114,12 @@ fn growth(random: &mut Random) -> Vec<(&'static str, Vec<Scene>)> {
         ("lengths and records that no growing table has", lengths),
         ("plain moves, of spoilt tables too", moves),
     ]
+}
+
+/// Scenes that compare/mutate asked for: they see faults in moves and growth that those above do not.
+fn for_faults(random: &mut Random) -> Vec<(&'static str, Vec<Scene>)> {
+    let tried = vec![growths::sampled(random), growths::full_below(random, 512, 2048), growths::full_again(random, 512, 1024, true)];
+    vec![("growing tables, tries that are Full", tried), ("moves of forged tables", growths::forged())]
 }
 
 /// Writes crates/replay/stdin and stdout, and crates/answers/stdout.
