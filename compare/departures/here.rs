@@ -16,8 +16,11 @@ impl Programs {
             .stdout(Stdio::piped())
             .spawn()
             .expect("the program starts");
-        child.stdin.take().unwrap().write_all(input.as_bytes()).unwrap();
+        // written beside the reading: a program that answers at once would wait for a reader of its answers
+        let (mut to, input) = (child.stdin.take().unwrap(), input.to_string());
+        let writer = std::thread::spawn(move || to.write_all(input.as_bytes()).unwrap());
         let output = child.wait_with_output().unwrap();
+        writer.join().unwrap();
         assert!(output.status.success(), "the program {name} ended badly");
         String::from_utf8(output.stdout).unwrap().lines().map(str::to_string).collect()
     }
