@@ -1,14 +1,11 @@
--- How the calls' own types are read: an entry, each case of each answer by 01's number and values, and what a call left.
-use mathlib.Core.List.{List, [], _∷_}
+-- How the calls' own types are read: each case of each answer by 01's number and values, and what a call left.
+use mathlib.Core.List.{List, []}
 use Prim.Native.Nat.{ℕ}
-use Rattle.rules.specs.Answers.{Said, found, new, replaced, revived, removed, refused, Outcome}
-use Rattle.rules.specs.Entries as rule
-use Rattle.rules.specs.Entries.{Making, made, refuses, entryAfter}
-use Rattle.cells.specs.Layout.{Left, countsOf, leftBy}
+use Rattle.rules.specs.Answers.{Said, found, replaced, removed, refused}
+use Rattle.rules.specs.Entries.{Making, made, refuses}
+use Rattle.cells.specs.Layout.{Left}
 use Rattle.cells.specs.declared.Table.{Table}
-use Rattle.hashentry.specs.declared.record.Place.{Place}
-use Rattle.hashentry.specs.declared.record.Place.the-variants.{Occupied, Vacant}
-use Rattle.hashentry.specs.declared.record.Entry.{Entry}
+use Rattle.entries.specs.Answers.{entryIn, leftAs}
 use Rattle.hashentry.specs.declared.making.EntrySaid.{EntrySaid}
 use Rattle.hashentry.specs.declared.making.EntrySaid.the-variants as entries
 use Rattle.hashentry.specs.declared.occupied.GetSaid.{GetSaid}
@@ -19,16 +16,6 @@ use Rattle.hashentry.specs.declared.occupied.EntryRemoveSaid.{EntryRemov
 use Rattle.hashentry.specs.declared.occupied.EntryRemoveSaid.the-variants as removes
 use Rattle.hashentry.specs.declared.occupied.EntryRemoveAnswer.{EntryRemoveAnswer}
 use Rattle.hashentry.specs.declared.occupied.RemoveEntryAnswer.{RemoveEntryAnswer}
-use Rattle.hashentry.specs.declared.vacant.EntryInsertSaid.{EntryInsertSaid}
-use Rattle.hashentry.specs.declared.vacant.EntryInsertSaid.the-variants as inserts
-use Rattle.hashentry.specs.declared.inserting.EntryInsertAnswer.{EntryInsertAnswer}
-
-abbrev pub placeOf : Place → rule.Place
-placeOf (Occupied cell) = rule.occupied (cell .index)
-placeOf Vacant = rule.vacant
-
-abbrev pub entryIn : Entry → rule.Entry
-entryIn e = record { key = e .key; hash = e .hash; place = placeOf (e .place) }
 
 abbrev pub making : EntrySaid → Making
 making (entries.Made e) = made (entryIn e)
@@ -41,11 +28,6 @@ getSaid (gets.Found v) = found v
 getSaid gets.Shape = refused 1 []
 getSaid gets.ZeroHash = refused 2 []
 getSaid gets.Stale = refused 7 []
-
--- what a call left: its answer, the record and both slices, with no count
-abbrev pub leftAs : Said → Table → List ℕ → List ℕ → Left
-leftAs s t ws ds =
-    record { done = record { said = s; looked = 0; counts = countsOf (t .live); words = ws; deltas = ds }; hasher = t .hasher }
 
 abbrev pub replaceSaid : ReplaceSaid → Said
 replaceSaid (replaces.Replaced v) = replaced v
@@ -78,26 +60,3 @@ withKey k l = record { key = k; left = l }
 
 abbrev pub removeEntryLeft : RemoveEntryAnswer → List ℕ → List ℕ → Keyed
 removeEntryLeft r ws ds = withKey (r .key) (leftAs (entryRemoveSaid (r .said)) (r .table) ws ds)
-
-abbrev pub entryInsertSaid : EntryInsertSaid → Said
-entryInsertSaid inserts.New = new
-entryInsertSaid (inserts.Replaced v) = replaced v
-entryInsertSaid inserts.Revived = revived
-entryInsertSaid (inserts.Found v) = found v
-entryInsertSaid inserts.Shape = refused 1 []
-entryInsertSaid inserts.ZeroHash = refused 2 []
-entryInsertSaid inserts.Null = refused 3 []
-entryInsertSaid (inserts.Full at) = refused 4 (at .position ∷ [])
-entryInsertSaid inserts.Broken = refused 5 []
-entryInsertSaid inserts.Stale = refused 7 []
-
--- with the entry that is handed back
-pub record Handed : Type 0 where
-  pub entry : rule.Entry
-  pub left : Left
-
-abbrev pub handedBy : Outcome → rule.Entry → Table → List ℕ → List ℕ → Handed
-handedBy o e t ws ds = record { entry = entryAfter e (o .change); left = leftBy o t ws ds }
-
-abbrev pub insertHanded : EntryInsertAnswer → List ℕ → List ℕ → Handed
-insertHanded r ws ds = record { entry = entryIn (r .entry); left = leftAs (entryInsertSaid (r .said)) (r .table) ws ds }

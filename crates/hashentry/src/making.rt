@@ -1,17 +1,17 @@
-// Making an entry.
+// Making an entry, and its key.
 ghost use mathlib.Core.Path.{_≡_};
 ghost use Rattle.rules.specs.Entries.{makeIn, entryOf};
 ghost use Rattle.cells.specs.Layout.{null, view, valueIn, lent, Shaped};
 ghost use Rattle.hashentry.specs.Answers.{making};
-use crate::record::CellAt;
-use crate::record::Entry;
-use crate::record::Place;
 use cells::Table;
 use cells::cell_of;
 use cells::passes;
 use cells::slices::value_at;
 use cells::walk::Stop;
 use cells::walk::walk_to;
+use entries::record::CellAt;
+use entries::record::Entry;
+use entries::record::Place;
 use hashers::hash_of;
 
 pub enum EntrySaid {
@@ -67,4 +67,12 @@ pub fn entry(words: &[u64], deltas: &[u8], table: Table, key: u64) -> EntrySaid
         return entry_in(words, deltas, size, hash, key);
     }
     EntrySaid::Shape
+}
+
+// The key of an entry, of either case.
+pub fn key(entry: Entry) -> u64
+    ensures { λ r. ⌜ r ≡ entry .key ⌝ }
+{
+    let key = entry.key;
+    key
 }

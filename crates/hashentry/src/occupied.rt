@@ -2,15 +2,16 @@
 ghost use mathlib.Core.Path.{_≡_};
 ghost use Rattle.rules.specs.Entries.{getBy, replaceBy, removeBy};
 ghost use Rattle.cells.specs.Layout.{lent, leftBy};
-ghost use Rattle.hashentry.specs.Answers.{entryIn, getSaid, replaceLeft, removeLeft, removeEntryLeft, withKey};
-use crate::looking::Looked;
-use crate::looking::look;
-use crate::looking::passes_at;
-use crate::record::Entry;
+ghost use Rattle.entries.specs.Answers.{entryIn};
+ghost use Rattle.hashentry.specs.Answers.{getSaid, replaceLeft, removeLeft, removeEntryLeft, withKey};
 use cells::Offered;
 use cells::Table;
 use cells::offer;
 use cells::slices::store_value;
+use entries::looking::Looked;
+use entries::looking::look;
+use entries::looking::passes_at;
+use entries::record::Entry;
 
 pub enum GetSaid {
     Found(u64),
@@ -119,18 +120,18 @@ pub struct EntryRemoveAnswer {
 pub fn remove(words: &mut [u64], deltas: &[u8], table: Table, entry: Entry) -> EntryRemoveAnswer
     ensures { λ r. ⌜ removeLeft r (now (words .exit)) (now (deltas .entry)) ≡ leftBy (removeBy (lent (now (words .entry)) (now (deltas .entry)) table) (entryIn entry)) table (now (words .entry)) (now (deltas .entry)) ⌝ }
 {
-    let hasher = table.hasher;
     let live = table.live;
     let place = entry.place;
     if passes_at(words, deltas, live, place) {
         let size = deltas.len() / 2;
+        let hasher = table.hasher;
         let looked = look(words, size, hasher, entry);
         match looked {
             Looked::Held(cell) => {
                 if live == 0 {
                     return EntryRemoveAnswer {
                         said: EntryRemoveSaid::Broken,
-                        table: Table { hasher, live },
+                        table,
                     };
                 }
                 store_value(words, cell.index, Table::NULL);
@@ -145,20 +146,20 @@ pub fn remove(words: &mut [u64], deltas: &[u8], table: Table, entry: Entry) -> E
             Looked::ZeroHash => {
                 return EntryRemoveAnswer {
                     said: EntryRemoveSaid::ZeroHash,
-                    table: Table { hasher, live },
+                    table,
                 };
             }
             Looked::Stale => {
                 return EntryRemoveAnswer {
                     said: EntryRemoveSaid::Stale,
-                    table: Table { hasher, live },
+                    table,
                 };
             }
         }
     }
     EntryRemoveAnswer {
         said: EntryRemoveSaid::Shape,
-        table: Table { hasher, live },
+        table,
     }
 }
 

@@ -169,7 +169,7 @@ pub fn insert(
                     return InsertAnswer {
                         said: InsertSaid::ZeroHash,
                         looked: 0,
-                        table: Table { hasher, live },
+                        table,
                     };
                 }
                 let size = deltas.len() / 2;
@@ -188,7 +188,7 @@ pub fn insert(
                 return InsertAnswer {
                     said: InsertSaid::Null,
                     looked: 0,
-                    table: Table { hasher, live },
+                    table,
                 };
             }
         }
@@ -196,7 +196,7 @@ pub fn insert(
     InsertAnswer {
         said: InsertSaid::Shape,
         looked: 0,
-        table: Table { hasher, live },
+        table,
     }
 }
 
@@ -212,7 +212,7 @@ pub fn remove(words: &mut [u64], deltas: &[u8], table: Table, key: u64) -> Remov
             return RemoveAnswer {
                 said: RemoveSaid::ZeroHash,
                 looked: 0,
-                table: Table { hasher, live },
+                table,
             };
         }
         let size = deltas.len() / 2;
@@ -230,7 +230,7 @@ pub fn remove(words: &mut [u64], deltas: &[u8], table: Table, key: u64) -> Remov
     RemoveAnswer {
         said: RemoveSaid::Shape,
         looked: 0,
-        table: Table { hasher, live },
+        table,
     }
 }
 

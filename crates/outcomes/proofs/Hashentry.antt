@@ -7,10 +7,11 @@ use Rattle.rules.specs.Entries as rule
 use Rattle.rules.specs.Entries.{Making, made, refuses, entryOf, getBy, replaceBy, removeBy, insertBy, orInsertBy, insertEntryBy}
 use Rattle.cells.specs.Layout.{Left, lent, leftBy}
 use Rattle.cells.specs.declared.Table.{Table}
-use Rattle.hashentry.specs.Answers.{placeOf, entryIn, making, getSaid, leftAs, replaceSaid, replaceLeft, entryRemoveSaid, removeLeft, Keyed, withKey, removeEntryLeft, entryInsertSaid, Handed, handedBy, insertHanded}
-use Rattle.hashentry.specs.declared.record.Place.{Place}
-use Rattle.hashentry.specs.declared.record.Place.the-variants.{Occupied, Vacant}
-use Rattle.hashentry.specs.declared.record.Entry.{Entry}
+use Rattle.entries.specs.Answers.{placeOf, entryIn, leftAs, entryInsertSaid, Handed, handedBy, insertHanded}
+use Rattle.hashentry.specs.Answers.{making, getSaid, replaceSaid, replaceLeft, entryRemoveSaid, removeLeft, Keyed, withKey, removeEntryLeft}
+use Rattle.entries.specs.declared.record.Place.{Place}
+use Rattle.entries.specs.declared.record.Place.the-variants.{Occupied, Vacant}
+use Rattle.entries.specs.declared.record.Entry.{Entry}
 use Rattle.hashentry.specs.declared.making.EntrySaid.{EntrySaid}
 use Rattle.hashentry.specs.declared.making.EntrySaid.the-variants as entries
 use Rattle.hashentry.specs.declared.occupied.GetSaid.{GetSaid}
@@ -21,9 +22,9 @@ use Rattle.hashentry.specs.declared.occupied.EntryRemoveSaid.{EntryRemoveSaid}
 use Rattle.hashentry.specs.declared.occupied.EntryRemoveSaid.the-variants as removes
 use Rattle.hashentry.specs.declared.occupied.EntryRemoveAnswer.{EntryRemoveAnswer}
 use Rattle.hashentry.specs.declared.occupied.RemoveEntryAnswer.{RemoveEntryAnswer}
-use Rattle.hashentry.specs.declared.vacant.EntryInsertSaid.{EntryInsertSaid}
-use Rattle.hashentry.specs.declared.vacant.EntryInsertSaid.the-variants as inserts
-use Rattle.hashentry.specs.declared.inserting.EntryInsertAnswer.{EntryInsertAnswer}
+use Rattle.entries.specs.declared.vacant.EntryInsertSaid.{EntryInsertSaid}
+use Rattle.entries.specs.declared.vacant.EntryInsertSaid.the-variants as inserts
+use Rattle.entries.specs.declared.giving.EntryInsertAnswer.{EntryInsertAnswer}
 use Rattle.outcomes.proofs.One.{both, one}
 
 -- ---- entry and key

@@ -42,23 +42,7 @@ fn say_inserted(said: InsertSaid) {
     }
 }
 
-fn insert(words: &mut [u64], deltas: &mut [u8], table: Table, key: u64, value: u64) -> Table {
-    let answer = hashmap::insert(words, deltas, table, key, value);
-    text(b"insert ");
-    number(key);
-    text(b": ");
-    let said = answer.said;
-    say_inserted(said);
-    after(answer.looked);
-    answer.table
-}
-
-fn find(words: &[u64], deltas: &[u8], table: Table, key: u64) {
-    let answer = hashmap::find(words, deltas, table, key);
-    text(b"find ");
-    number(key);
-    text(b": ");
-    let said = answer.said;
+fn say_found(said: FindSaid) {
     match said {
         FindSaid::Found(value) => {
             text(b"Found ");
@@ -69,15 +53,9 @@ fn find(words: &[u64], deltas: &[u8], table: Table, key: u64) {
         FindSaid::ZeroHash => text(b"2"),
         FindSaid::Broken => text(b"5"),
     }
-    after(answer.looked);
 }
 
-fn remove(words: &mut [u64], deltas: &[u8], table: Table, key: u64) -> Table {
-    let answer = hashmap::remove(words, deltas, table, key);
-    text(b"remove ");
-    number(key);
-    text(b": ");
-    let said = answer.said;
+fn say_removed(said: RemoveSaid) {
     match said {
         RemoveSaid::Removed(value) => {
             text(b"Removed ");
@@ -88,8 +66,47 @@ fn remove(words: &mut [u64], deltas: &[u8], table: Table, key: u64) -> Table {
         RemoveSaid::ZeroHash => text(b"2"),
         RemoveSaid::Broken => text(b"5"),
     }
+}
+
+fn asked(call: &[u8], key: u64) {
+    text(call);
+    number(key);
+    text(b": ");
+}
+
+fn insert(words: &mut [u64], deltas: &mut [u8], table: Table, key: u64, value: u64) -> Table {
+    let answer = hashmap::insert(words, deltas, table, key, value);
+    asked(b"insert ", key);
+    let said = answer.said;
+    say_inserted(said);
     after(answer.looked);
     answer.table
+}
+
+fn find(words: &[u64], deltas: &[u8], table: Table, key: u64) {
+    let answer = hashmap::find(words, deltas, table, key);
+    asked(b"find ", key);
+    let said = answer.said;
+    say_found(said);
+    after(answer.looked);
+}
+
+fn remove(words: &mut [u64], deltas: &[u8], table: Table, key: u64) -> Table {
+    let answer = hashmap::remove(words, deltas, table, key);
+    asked(b"remove ", key);
+    let said = answer.said;
+    say_removed(said);
+    after(answer.looked);
+    answer.table
+}
+
+// Inserts pairs of a key and its value.
+fn inserts(words: &mut [u64], deltas: &mut [u8], table: Table, pairs: &[u64]) -> Table {
+    let mut t = table;
+    for i in 0..pairs.len() / 2 {
+        t = insert(words, deltas, t, pairs[2 * i], pairs[2 * i + 1]);
+    }
+    t
 }
 
 // A fresh table; for slices of a wrong length a record that every call refuses.
@@ -134,48 +151,45 @@ fn show_deltas(deltas: &[u8]) {
     text(b"\n");
 }
 
-fn chained(words: &mut [u64], deltas: &mut [u8], table: Table) -> Table {
-    let t = insert(words, deltas, table, 8, 80);
-    let t = insert(words, deltas, t, 16, 160);
-    let t = insert(words, deltas, t, 24, 240);
-    insert(words, deltas, t, 1, 10)
-}
-
 fn one_and_two(words: &mut [u64], deltas: &mut [u8]) {
     text(b"example 1\n");
     let t = fresh(words, deltas);
-    let t = chained(words, deltas, t);
+    let t = inserts(words, deltas, t, &[8, 80, 16, 160, 24, 240, 1, 10]);
     show_keys(words);
     show_deltas(deltas);
     text(b"example 2\n");
     find(words, deltas, t, 1);
 }
 
-// The keys 1 to 4, each in its home.
-fn low_half(words: &mut [u64], deltas: &mut [u8], table: Table) -> Table {
-    let t = insert(words, deltas, table, 1, 10);
-    let t = insert(words, deltas, t, 2, 20);
-    let t = insert(words, deltas, t, 3, 30);
-    insert(words, deltas, t, 4, 40)
-}
-
-fn high_half(words: &mut [u64], deltas: &mut [u8], table: Table) -> Table {
-    let t = insert(words, deltas, table, 5, 50);
-    let t = insert(words, deltas, t, 6, 60);
-    let t = insert(words, deltas, t, 7, 70);
-    insert(words, deltas, t, 8, 80)
-}
-
+// The keys 1 to 8, each in its home, then two that find no room.
 fn three_and_four(words: &mut [u64], deltas: &mut [u8]) {
     text(b"example 3\n");
     let t = fresh(words, deltas);
-    let t = low_half(words, deltas, t);
-    let t = high_half(words, deltas, t);
-    no_room(words, deltas, t);
-}
-
-fn no_room(words: &mut [u64], deltas: &mut [u8], table: Table) {
-    let t = insert(words, deltas, table, 9, 90);
+    let t = inserts(
+        words,
+        deltas,
+        t,
+        &[
+            1,
+            10,
+            2,
+            20,
+            3,
+            30,
+            4,
+            40,
+            5,
+            50,
+            6,
+            60,
+            7,
+            70,
+            8,
+            80,
+            9,
+            90,
+        ],
+    );
     text(b"example 4\n");
     let t = insert(words, deltas, t, 0xffff_ffff_ffff_ffff, 7);
     live(t);
@@ -184,8 +198,12 @@ fn no_room(words: &mut [u64], deltas: &mut [u8], table: Table) {
 fn five(words: &mut [u64], deltas: &mut [u8]) {
     text(b"example 5\n");
     let t = fresh(words, deltas);
-    let t = insert(words, deltas, t, 0xffff_ffff_ffff_ffff, 1);
-    let t = insert(words, deltas, t, 0xffff_ffff_ffff_fff7, 2);
+    let t = inserts(
+        words,
+        deltas,
+        t,
+        &[0xffff_ffff_ffff_ffff, 1, 0xffff_ffff_ffff_fff7, 2],
+    );
     show_keys(words);
     show_deltas(deltas);
     live(t);
@@ -203,9 +221,12 @@ fn six(words: &mut [u64], deltas: &mut [u8]) -> Table {
 
 fn seven(words: &mut [u64], deltas: &mut [u8], table: Table) {
     text(b"example 7\n");
-    let t = insert(words, deltas, table, 0, 1);
-    let t = insert(words, deltas, t, 6, 0xffff_ffff_ffff_fffe);
-    let t = insert(words, deltas, t, 6, 0xffff_ffff_ffff_ffff);
+    let t = inserts(
+        words,
+        deltas,
+        table,
+        &[0, 1, 6, 0xffff_ffff_ffff_fffe, 6, 0xffff_ffff_ffff_ffff],
+    );
     find(words, deltas, t, 6);
 }
 
@@ -247,72 +268,67 @@ fn lookups(words: &[u64], deltas: &[u8], table: Table) {
     find(words, deltas, table, 1);
 }
 
-// The keys 8 and 1, and 16 put in, taken out and put in again.
-fn one_order(words: &mut [u64], deltas: &mut [u8]) -> Table {
-    text(b"one order\n");
-    let t = fresh(words, deltas);
-    let t = insert(words, deltas, t, 8, 80);
-    let t = insert(words, deltas, t, 16, 160);
-    insert(words, deltas, t, 1, 10)
+// Takes the key 16 out, and inserts pairs.
+fn after_remove(words: &mut [u64], deltas: &mut [u8], table: Table, pairs: &[u64]) {
+    let t = remove(words, deltas, table, 16);
+    let t = inserts(words, deltas, t, pairs);
+    lookups(words, deltas, t);
 }
 
-fn again(words: &mut [u64], deltas: &mut [u8], table: Table) -> Table {
-    let t = remove(words, deltas, table, 16);
-    insert(words, deltas, t, 16, 161)
+// The keys 8 and 1, and 16 put in, taken out and put in again.
+fn one_order(words: &mut [u64], deltas: &mut [u8]) {
+    text(b"any order, S = 8\none order\n");
+    let t = fresh(words, deltas);
+    let t = inserts(words, deltas, t, &[8, 80, 16, 160, 1, 10]);
+    after_remove(words, deltas, t, &[16, 161]);
 }
 
 // The same requests in another order, with the order on each key kept.
-fn another_order(words: &mut [u64], deltas: &mut [u8]) -> Table {
+fn another_order(words: &mut [u64], deltas: &mut [u8]) {
     text(b"another order\n");
     let t = fresh(words, deltas);
-    let t = insert(words, deltas, t, 1, 10);
-    insert(words, deltas, t, 16, 160)
-}
-
-fn ended(words: &mut [u64], deltas: &mut [u8], table: Table) -> Table {
-    let t = remove(words, deltas, table, 16);
-    let t = insert(words, deltas, t, 8, 80);
-    insert(words, deltas, t, 16, 161)
-}
-
-fn any_order(words: &mut [u64], deltas: &mut [u8]) {
-    text(b"any order, S = 8\n");
-    let t = one_order(words, deltas);
-    let t = again(words, deltas, t);
-    lookups(words, deltas, t);
-    reordered(words, deltas);
-}
-
-fn reordered(words: &mut [u64], deltas: &mut [u8]) {
-    let t = another_order(words, deltas);
-    let t = ended(words, deltas, t);
-    lookups(words, deltas, t);
+    let t = inserts(words, deltas, t, &[1, 10, 16, 160]);
+    after_remove(words, deltas, t, &[8, 80, 16, 161]);
 }
 
 // Example 10's keys with 257 second: none is Full. Above 128 cells, then, Full may appear in one order only.
 fn early(words: &mut [u64], deltas: &mut [u8]) {
     text(b"any order, S = 256: example 10's keys, 257 second\n");
     let t = fresh(words, deltas);
-    let t = insert(words, deltas, t, 1, 1);
-    let t = insert(words, deltas, t, 257, 3);
+    let t = inserts(words, deltas, t, &[1, 1, 257, 3]);
     let t = fill(words, deltas, t, 128);
     live(t);
+}
+
+fn six_and_seven(words: &mut [u64], deltas: &mut [u8]) {
+    let t = six(words, deltas);
+    seven(words, deltas, t);
+}
+
+// Tables of 8 cells.
+fn small(words: &mut [u64], deltas: &mut [u8]) {
+    one_and_two(words, deltas);
+    three_and_four(words, deltas);
+    five(words, deltas);
+    six_and_seven(words, deltas);
+    one_order(words, deltas);
+    another_order(words, deltas);
+}
+
+// Tables of 256 cells.
+fn large(words: &mut [u64], deltas: &mut [u8]) {
+    text(b"example 9\n");
+    crowded(words, deltas, 127);
+    text(b"example 10\n");
+    crowded(words, deltas, 128);
+    early(words, deltas);
 }
 
 fn main() {
     let mut words = [0u64; 24];
     let mut deltas = [0u8; 16];
-    one_and_two(&mut words, &mut deltas);
-    three_and_four(&mut words, &mut deltas);
-    five(&mut words, &mut deltas);
-    let t = six(&mut words, &mut deltas);
-    seven(&mut words, &mut deltas, t);
-    let mut more = [0u64; 768];
-    let mut bytes = [0u8; 512];
-    text(b"example 9\n");
-    crowded(&mut more, &mut bytes, 127);
-    text(b"example 10\n");
-    crowded(&mut more, &mut bytes, 128);
-    any_order(&mut words, &mut deltas);
-    early(&mut more, &mut bytes);
+    small(&mut words, &mut deltas);
+    let mut words = [0u64; 768];
+    let mut deltas = [0u8; 512];
+    large(&mut words, &mut deltas);
 }

@@ -3,8 +3,8 @@ use borrow.Author.Needs.{needs}
 use mathlib.Core.Path.{ap, _∙_}
 use Rattle.rules.specs.Entries.{Action, inserting, useEntry}
 use Rattle.cells.specs.Layout.{lent}
-use Rattle.hashentry.specs.Answers.{placeOf, entryIn, handedBy}
-use Rattle.hashentry.proofs.Handing.{case-same}
+use Rattle.entries.specs.Answers.{placeOf, entryIn, handedBy}
+use Rattle.entries.proofs.Handing.{case-same}
 use Rattle.hashentry.proofs.inserting.insert.Statement.{statement}
 use Rattle.hashentry.proofs.inserting.insert.Tie as tie
 

@@ -4,7 +4,7 @@ use mathlib.Core.Path.{sym, _∙_}
 use Rattle.steps.proofs.Branches.{shape-fails, shape-passes}
 use Rattle.cells.specs.Layout.{lent}
 use Rattle.cells.proofs.Shapes.{passed}
-use Rattle.hashentry.proofs.Using.{make-shape, make-zero, make-past}
+use Rattle.hashentry.proofs.Made.{make-shape, make-zero, make-past}
 use Rattle.hashentry.proofs.making.entry.Statement.{statement}
 use Rattle.hashentry.proofs.making.entry.Tie as tie
 

@@ -3,7 +3,7 @@ use borrow.Author.Needs.{needs}
 use mathlib.Core.Path.{ap}
 use Rattle.cells.specs.Workers.{stopOf}
 use Rattle.cells.proofs.Shapes.{in-words}
-use Rattle.hashentry.proofs.Using.{make-ends, make-removed, make-live}
+use Rattle.hashentry.proofs.Made.{make-ends, make-removed, make-live}
 use Rattle.hashentry.proofs.making.entry_in.Statement.{statement}
 use Rattle.hashentry.proofs.making.entry_in.Tie as tie
 

@@ -4,8 +4,8 @@ use mathlib.Core.Path.{refl, sym, ap, _∙_}
 use Rattle.rules.specs.Entries.{reading}
 use Rattle.rules.specs.Answers.{Outcome}
 use Rattle.cells.specs.Layout.{lent}
-use Rattle.hashentry.specs.Answers.{placeOf, entryIn}
-use Rattle.hashentry.proofs.Using.{use-fails, use-passes, use-ready, use-shape, on-held, on-zero, on-stale}
+use Rattle.entries.specs.Answers.{placeOf, entryIn}
+use Rattle.entries.proofs.Using.{use-fails, use-passes, use-ready, use-shape, on-held, on-zero, on-stale}
 use Rattle.hashentry.proofs.occupied.get.Statement.{statement}
 use Rattle.hashentry.proofs.occupied.get.Tie as tie
 

@@ -6,8 +6,8 @@ use Rattle.steps.proofs.Branches.{settle-removed, settle-removed-out}
 use Rattle.cells.specs.Layout.{lent}
 use Rattle.cells.proofs.Doing.{did, left-all}
 use Rattle.hashmap.proofs.Leaving.{as-left}
-use Rattle.hashentry.specs.Answers.{placeOf, entryIn}
-use Rattle.hashentry.proofs.Using.{use-fails, use-passes, use-ready, held-in, use-shape, looked-at, on-held, on-zero, on-stale}
+use Rattle.entries.specs.Answers.{placeOf, entryIn}
+use Rattle.entries.proofs.Using.{use-fails, use-passes, use-ready, held-in, use-shape, looked-at, on-held, on-zero, on-stale}
 use Rattle.hashentry.proofs.occupied.remove.Statement.{statement}
 use Rattle.hashentry.proofs.occupied.remove.Tie as tie
 
@@ -35,8 +35,8 @@ store-value-requires c κs =
     let r = use-ready _ _ _ (placeOf (c .before .before .before .before .before .before .before .before .before .before .before .before .args .entry .place)) (sym (c .before .before .before .before .before .before .before .before .passes-at .ensures) ∙ c .before .before .before .before .before .before .before .if1 .taken) in
     held-in _ (c .before .before .before .before .before .before .before .before .before .before .before .before .args .words .now) _ _ (r .0 .words) (r .1) (looked-at _ _ (entryIn (c .before .before .before .before .before .before .before .before .before .before .before .before .args .entry)) _ (c .before .before .before .before .before .look .ensures) _ (c .before .before .before .looked .given .1))
 
-sub-t24 : tie.Need-sub-t24
-sub-t24 c = search needs
+sub-t23 : tie.Need-sub-t23
+sub-t23 c = search needs
 
 same-length-2 : tie.Need-same-length-2
 same-length-2 c = search needs
@@ -86,7 +86,7 @@ remove-spec =
     same-length
     returns
     store-value-requires
-    sub-t24
+    sub-t23
     same-length-2
     returns-2
     enum-told

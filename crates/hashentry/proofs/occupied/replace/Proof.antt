@@ -6,8 +6,8 @@ use Rattle.steps.proofs.Branches.{settle-replaced}
 use Rattle.cells.specs.Layout.{lent, offeredBy}
 use Rattle.cells.proofs.Doing.{did, left-all}
 use Rattle.hashmap.proofs.Leaving.{as-left}
-use Rattle.hashentry.specs.Answers.{placeOf, entryIn}
-use Rattle.hashentry.proofs.Using.{use-fails, use-passes, use-ready, held-in, use-shape, use-offered, looked-at, on-held, on-zero, on-stale}
+use Rattle.entries.specs.Answers.{placeOf, entryIn}
+use Rattle.entries.proofs.Using.{use-fails, use-passes, use-ready, held-in, use-shape, use-offered, looked-at, on-held, on-zero, on-stale}
 use Rattle.hashentry.proofs.occupied.replace.Statement.{statement}
 use Rattle.hashentry.proofs.occupied.replace.Tie as tie
 
