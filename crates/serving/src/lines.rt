@@ -20,9 +20,15 @@ pub struct Question {
 }
 
 // How far a run is: what is kept, how many requests there were, and how many answers were not those recorded.
-pub struct Session {
-    pub state: State,
-    pub replay: bool,
+struct Session {
+    state: State,
+    replay: bool,
+    requests: u64,
+    differences: u64,
+}
+
+// How many requests there were, and how many answers were not those recorded.
+pub struct Tally {
     pub requests: u64,
     pub differences: u64,
 }
@@ -241,7 +247,7 @@ pub fn serve(
     room: &mut [u8],
     n: usize,
     replay: bool,
-) -> Session {
+) -> Tally {
     let mut going = Going {
         session: Session::start(replay),
         reader: Reader::start(n),
@@ -249,10 +255,18 @@ pub fn serve(
     let mut turns = u64::MAX;
     while 0 < turns {
         if going.reader.ended {
-            return going.session;
+            let session = going.session;
+            return Tally {
+                requests: session.requests,
+                differences: session.differences,
+            };
         }
         going = step(words, deltas, spare_words, spare_deltas, input, room, going);
         turns -= 1;
     }
-    going.session
+    let session = going.session;
+    Tally {
+        requests: session.requests,
+        differences: session.differences,
+    }
 }
