@@ -10,12 +10,12 @@ use Rattle.rules.specs.Growing as rule
 use Rattle.rules.specs.Growing.{LentHalves, GrowOutcome, refusedAt, start, grow}
 use Rattle.cells.specs.Layout.{null, sizeIn}
 use Rattle.moving.specs.Slices.{heldIn, clearHeld, wordsBecome, deltasBecome}
-use Rattle.halves.specs.Halves.{halfOf, ofHalf, areHalves, lentHalves}
+use Rattle.parts.specs.Halves.{halfOf, ofHalf, areHalves, lentHalves}
 use Rattle.halves.specs.Answers.{four}
-use Rattle.halves.specs.declared.Half.{Half}
-use Rattle.halves.specs.declared.Half.the-variants.{Lower, Upper}
-use Rattle.halves.specs.declared.Growing.{Growing}
-use Rattle.halves.proofs.Checks.{halves-hold}
+use Rattle.parts.specs.declared.Half.{Half}
+use Rattle.parts.specs.declared.Half.the-variants.{Lower, Upper}
+use Rattle.parts.specs.declared.Growing.{Growing}
+use Rattle.parts.proofs.Checks.{halves-hold}
 use Rattle.growth.specs.Growth.{lowerOf, upperOf, grewFrom}
 use Rattle.growthlaws.specs.Grown as checks
 use Rattle.movelaws.specs.Plain.{heldBecome}

@@ -16,9 +16,9 @@ use Rattle.movelaws.proofs.Fresh.{fresh-clear}
 use Rattle.sound.specs.State.{SoundTable}
 use Rattle.hashmap.specs.Answers.{Cleared, clearRule}
 use Rattle.hashmap.proofs.Cleared.{clears, keeps}
-use Rattle.halves.specs.Halves.{areHalves, sizeFits}
+use Rattle.parts.specs.Halves.{areHalves, sizeFits}
 use Rattle.halves.specs.Answers.{four, cleared, refuses, HalvesCleared, freshGrowing, clearHalvesRule}
-use Rattle.halves.proofs.Checks.{both, halves-hold, size-holds}
+use Rattle.parts.proofs.Checks.{both, halves-hold, size-holds}
 use Rattle.order.specs.Runs.{Memory}
 use Rattle.census.specs.Steps.{Step}
 use Rattle.census.specs.Stores.{TwoHalves, alone, halved, tableIn, memoryCleared, twoCleared}

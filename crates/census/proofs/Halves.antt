@@ -20,11 +20,11 @@ use Rattle.cells.proofs.Views.{Within}
 use Rattle.moving.specs.Slices.{heldIn}
 use Rattle.moving.proofs.Held.{held-changed, words-kept, deltas-kept}
 use Rattle.sound.specs.State.{after}
-use Rattle.halves.specs.Halves.{halfOf, ofHalf, areHalves, lentHalves}
+use Rattle.parts.specs.Halves.{halfOf, ofHalf, areHalves, lentHalves}
 use Rattle.halves.specs.Answers.{four, inLower, inUpper, halvesBy}
-use Rattle.halves.specs.declared.Half.{Half}
-use Rattle.halves.specs.declared.Growing.{Growing}
-use Rattle.halves.proofs.Checks.{halves-hold}
+use Rattle.parts.specs.declared.Half.{Half}
+use Rattle.parts.specs.declared.Growing.{Growing}
+use Rattle.parts.proofs.Checks.{halves-hold}
 use Rattle.growthlaws.proofs.Checks.{passed-shaped, passed-size, passed-most}
 use Rattle.census.specs.Stores.{halved, tableIn, left}
 

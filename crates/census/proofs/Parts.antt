@@ -26,10 +26,10 @@ use Rattle.cells.specs.Layout.{Shaped, sizeIn, isShaped, paramsOf, countsOf, le
 use Rattle.cells.proofs.Views.{Within}
 use Rattle.moving.specs.Slices.{clearHeld}
 use Rattle.moving.proofs.Held.{words-kept, deltas-kept}
-use Rattle.halves.specs.Halves.{halfOf, ofHalf, arePair, areHalves, sizeFits, recordFits, lentHalves, part, usedWords, usedDeltas, withTable}
+use Rattle.parts.specs.Halves.{halfOf, ofHalf, arePair, areHalves, sizeFits, recordFits, lentHalves, part, usedWords, usedDeltas, withTable}
 use Rattle.halves.specs.Answers.{Four, four, inLower, inUpper, freshGrowing, halvesBy}
-use Rattle.halves.specs.declared.Growing.{Growing}
-use Rattle.halves.proofs.Checks.{shape-fails}
+use Rattle.parts.specs.declared.Growing.{Growing}
+use Rattle.parts.proofs.Checks.{shape-fails}
 use Rattle.halves.proofs.Fronts.{part-is, part-alike, words-joined, deltas-joined, used-shaped, in-use-is}
 use Rattle.halves.proofs.AsTable.{words-are, deltas-are, parts-remove, parts-insert}
 use Rattle.order.specs.Runs.{memoryOf}

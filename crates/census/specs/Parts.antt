@@ -2,7 +2,7 @@
 use mathlib.Core.List.{List, _++_}
 use Prim.Native.Nat.{ℕ}
 use lib.ListN.{length, drop}
-use Rattle.halves.specs.Halves.{halfOf, usedWords, usedDeltas, withTable}
+use Rattle.parts.specs.Halves.{halfOf, usedWords, usedDeltas, withTable}
 use Rattle.halves.specs.Answers.{four, inLower, inUpper}
 use Rattle.order.specs.Runs.{Memory}
 use Rattle.census.specs.Stores.{TwoHalves, Store, alone, halved, moveFrom, movedTo}

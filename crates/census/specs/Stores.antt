@@ -11,12 +11,12 @@ use Rattle.cells.specs.Layout.{sizeIn, isShaped, leftBy}
 use Rattle.moving.specs.Slices.{clearHeld, wordsBecome, deltasBecome}
 use Rattle.hashmap.specs.Answers as cleared
 use Rattle.hashmap.specs.Answers.{Cleared}
-use Rattle.halves.specs.Halves.{lentHalves}
+use Rattle.parts.specs.Halves.{lentHalves}
 use Rattle.halves.specs.Answers as halves
 use Rattle.halves.specs.Answers.{Four, HalvesLeft, HalvesCleared, halvesBy}
-use Rattle.halves.specs.declared.Half.{Half}
-use Rattle.halves.specs.declared.Half.the-variants.{Lower, Upper}
-use Rattle.halves.specs.declared.Growing.{Growing}
+use Rattle.parts.specs.declared.Half.{Half}
+use Rattle.parts.specs.declared.Half.the-variants.{Lower, Upper}
+use Rattle.parts.specs.declared.Growing.{Growing}
 use Rattle.growth.specs.Growth.{Grown, growLeft}
 use Rattle.order.specs.Runs.{Memory, lentOf, memoryOf}
 

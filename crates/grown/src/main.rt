@@ -4,12 +4,12 @@ use growth::GrowAnswer;
 use growth::GrowSaid;
 use halves::ClearHalvesSaid;
 use halves::FindSaid;
-use halves::Growing;
-use halves::Half;
 use halves::RemoveSaid;
 use hashers::Hasher;
 use hashmap::Table;
 use libc::STDOUT_FILENO;
+use parts::Growing;
+use parts::Half;
 use std::num::wrapping_add_u64;
 
 fn text(bytes: &[u8]) {

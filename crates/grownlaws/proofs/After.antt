@@ -12,11 +12,11 @@ use Rattle.rules.specs.Growing.{LentHalves, GrowOutcome, refusedAt, start, grow
 use Rattle.cells.specs.Layout.{null, sizeIn, countsOf}
 use Rattle.moving.proofs.Held.{WithinAll}
 use Rattle.moving.specs.Slices.{heldIn, clearHeld, wordsBecome, deltasBecome}
-use Rattle.halves.specs.Halves.{halfOf, ofHalf, areHalves, lentHalves}
+use Rattle.parts.specs.Halves.{halfOf, ofHalf, areHalves, lentHalves}
 use Rattle.halves.specs.Answers.{Four, four}
-use Rattle.halves.specs.declared.Growing.{Growing}
-use Rattle.halves.proofs.Checks as holds
-use Rattle.halves.proofs.Checks.{halves-hold}
+use Rattle.parts.specs.declared.Growing.{Growing}
+use Rattle.parts.proofs.Checks as holds
+use Rattle.parts.proofs.Checks.{halves-hold}
 use Rattle.growth.specs.Growth.{GrownLeft, growSaid, lowerOf, upperOf, grewFrom, grownBy, growLeft}
 use Rattle.growth.specs.declared.GrowAnswer.{GrowAnswer}
 use Rattle.growthlaws.specs.Grown as checks

@@ -10,9 +10,9 @@ use Rattle.rules.specs.Answers.{refused}
 use Rattle.rules.specs.Growing.{inUse}
 use Rattle.laws.specs.Full.{lastFrom}
 use Rattle.sound.specs.State.{SoundTable}
-use Rattle.halves.specs.Halves.{halfOf}
+use Rattle.parts.specs.Halves.{halfOf}
 use Rattle.halves.specs.Answers.{Four}
-use Rattle.halves.specs.declared.Growing.{Growing}
+use Rattle.parts.specs.declared.Growing.{Growing}
 use Rattle.growth.specs.Growth.{growSaid}
 use Rattle.growth.specs.declared.GrowSaid.{GrowSaid}
 use Rattle.growth.specs.declared.GrowSaid.the-variants as says

@@ -12,7 +12,7 @@ use Rattle.cells.specs.Layout.{freshWords, freshDeltas}
 use Rattle.cells.proofs.Clearing.{fresh-length}
 use Rattle.moving.specs.Slices.{heldIn, clearHeld, wordsBecome, deltasBecome}
 use Rattle.moving.proofs.Held.{WithinAll, held-changed-all, words-kept-all, deltas-kept-all, fresh-shaped}
-use Rattle.halves.specs.Halves.{ofHalf}
+use Rattle.parts.specs.Halves.{ofHalf}
 use Rattle.growth.specs.Growth.{lowerOf, upperOf}
 use Rattle.movelaws.specs.Plain.{heldBecome}
 use Rattle.growthlaws.specs.Grown.{isCleared}

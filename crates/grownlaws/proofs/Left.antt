@@ -13,10 +13,10 @@ use Rattle.cells.specs.Layout.{sizeIn, freshWords, freshDeltas}
 use Rattle.laws.specs.Full.{IsFull}
 use Rattle.laws.proofs.Refusals.{stored-refused-leaves}
 use Rattle.moving.specs.Slices.{wordsBecome, deltasBecome}
-use Rattle.halves.specs.Halves.{halfOf, ofHalf}
+use Rattle.parts.specs.Halves.{halfOf, ofHalf}
 use Rattle.halves.specs.Answers.{Four}
-use Rattle.halves.specs.declared.Growing.{Growing}
-use Rattle.halves.proofs.Which.{unhalf, half-back}
+use Rattle.parts.specs.declared.Growing.{Growing}
+use Rattle.parts.proofs.Which.{unhalf, half-back}
 use Rattle.growth.specs.Growth.{growSaid, lowerOf, upperOf}
 use Rattle.growth.specs.declared.GrowSaid.the-variants as says
 use Rattle.growth.specs.declared.GrowAnswer.{GrowAnswer}

@@ -10,7 +10,7 @@ use Rattle.rules.specs.Calls.{find}
 use Rattle.rules.specs.Growing.{LentHalves, inUse}
 use Rattle.sound.specs.State.{SoundTable, Acceptable, stateOf, inserts}
 use Rattle.halves.specs.Answers.{Four}
-use Rattle.halves.specs.declared.Growing.{Growing}
+use Rattle.parts.specs.declared.Growing.{Growing}
 use Rattle.growth.specs.Growth.{growSaid}
 use Rattle.growth.specs.declared.GrowSaid.the-variants as says
 use Rattle.growth.specs.declared.GrowAnswer.{GrowAnswer}

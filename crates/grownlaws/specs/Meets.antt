@@ -6,9 +6,9 @@ use Rattle.rules.specs.Answers.{Outcome}
 use Rattle.rules.specs.Calls.{insert}
 use Rattle.rules.specs.Growing as rule
 use Rattle.rules.specs.Growing.{LentHalves, inUse, GrowOutcome, grow}
-use Rattle.halves.specs.Halves.{ofHalf, lentHalves}
+use Rattle.parts.specs.Halves.{ofHalf, lentHalves}
 use Rattle.halves.specs.Answers.{Four}
-use Rattle.halves.specs.declared.Growing.{Growing}
+use Rattle.parts.specs.declared.Growing.{Growing}
 use Rattle.growth.specs.Growth.{grownBy, growLeft}
 use Rattle.growth.specs.declared.GrowAnswer.{GrowAnswer}
 

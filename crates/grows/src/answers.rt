@@ -9,11 +9,11 @@ use growth::GrowSaid;
 use halves::ClearHalvesSaid;
 use halves::FindAnswer;
 use halves::FindSaid;
-use halves::Growing;
 use halves::GrowingRemoveAnswer;
 use halves::RemoveSaid;
 use kept::number_of;
 use moves::MoveSaid;
+use parts::Growing;
 
 // The record of the new table is carried, and is the record from then on.
 pub fn moved(answer: MoveSaid, growing: Growing) -> Grown {
@@ -28,7 +28,7 @@ pub fn moved(answer: MoveSaid, growing: Growing) -> Grown {
                     third: 0,
                     looked: 0,
                 },
-                growing: halves::with_table(growing, table),
+                growing: parts::with_table(growing, table),
             }
         }
         MoveSaid::Shape => Grown {

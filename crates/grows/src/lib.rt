@@ -10,11 +10,11 @@ use forms::kinds;
 use forms::said;
 use forms::told;
 use forms::told::Told;
-use halves::Growing;
-use halves::Half;
 use hashers::Hasher;
 use kept::Named;
 use kept::hasher_of;
+use parts::Growing;
+use parts::Half;
 
 // What a call said, and the growing record after it.
 pub struct Grown {
@@ -37,7 +37,7 @@ fn moved(
     deltas: &mut [u8],
     growing: Growing,
 ) -> Grown {
-    let table = halves::table(growing);
+    let table = parts::table(growing);
     let answer = moves::move_table(from_words, from_deltas, table, words, deltas);
     answers::moved(answer, growing)
 }
@@ -156,8 +156,8 @@ fn parts<'a, 'b>(
     upper_deltas: &'b [u8],
     growing: Growing,
 ) -> Told {
-    let words = halves::used_words(lower_words, upper_words, growing);
-    let deltas = halves::used_deltas(lower_deltas, upper_deltas, growing);
+    let words = parts::used_words(lower_words, upper_words, growing);
+    let deltas = parts::used_deltas(lower_deltas, upper_deltas, growing);
     Told {
         said: said::PARTS,
         first: lent_words(1, words, words.len()),
@@ -175,9 +175,9 @@ fn check<'a, 'b>(
     upper_deltas: &'b [u8],
     growing: Growing,
 ) -> Told {
-    let words = halves::used_words(lower_words, upper_words, growing);
-    let deltas = halves::used_deltas(lower_deltas, upper_deltas, growing);
-    answers::checked(checker::check(words, deltas, halves::table(growing)))
+    let words = parts::used_words(lower_words, upper_words, growing);
+    let deltas = parts::used_deltas(lower_deltas, upper_deltas, growing);
+    answers::checked(checker::check(words, deltas, parts::table(growing)))
 }
 
 // The calls that leave all.

@@ -12,11 +12,11 @@ use Rattle.rules.specs.Moves.{stays}
 use Rattle.rules.specs.Growing as rule
 use Rattle.rules.specs.Growing.{LentHalves, inUse, GrowOutcome, refusedAt, start, rounds, mostRounds, grow}
 use Rattle.cells.specs.Layout.{null, sizeIn, countsOf}
-use Rattle.halves.specs.Halves.{halfOf, areHalves, recordFits, lentHalves}
-use Rattle.halves.specs.declared.Half.{Half}
-use Rattle.halves.specs.declared.Half.the-variants.{Lower, Upper}
-use Rattle.halves.specs.declared.Growing.{Growing}
-use Rattle.halves.proofs.Checks.{Halves, Fits, passed, shape-passes, shape-fails}
+use Rattle.parts.specs.Halves.{halfOf, areHalves, recordFits, lentHalves}
+use Rattle.parts.specs.declared.Half.{Half}
+use Rattle.parts.specs.declared.Half.the-variants.{Lower, Upper}
+use Rattle.parts.specs.declared.Growing.{Growing}
+use Rattle.parts.proofs.Checks.{Halves, Fits, passed, shape-passes, shape-fails}
 use Rattle.growth.specs.Rounds.{Sides}
 use Rattle.growth.specs.Growth.{Grown, growSaid, grewFrom, roundsOn, grownBy, growLeft}
 use Rattle.growth.specs.declared.GrowSaid.{GrowSaid}

@@ -19,7 +19,7 @@ use Rattle.cells.proofs.Clearing.{fresh-length}
 use Rattle.cells.specs.Layout.{null, countsOf, freshWords, freshDeltas}
 use Rattle.moving.specs.Slices.{heldIn, clearHeld, wordsAfterAll, deltasAfterAll, wordsBecome, deltasBecome}
 use Rattle.moving.proofs.Held.{held-changed-all, move-within, words-kept-all, deltas-kept-all, fresh-shaped}
-use Rattle.halves.specs.Halves.{ofHalf}
+use Rattle.parts.specs.Halves.{ofHalf}
 use Rattle.laws.specs.Full.{IsFull}
 use Rattle.growthlaws.specs.Tries.{MovedInto}
 use Rattle.growthlaws.specs.Rounds.{Enough}

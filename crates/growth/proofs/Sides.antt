@@ -13,7 +13,7 @@ use Rattle.rules.specs.Growing as rule
 use Rattle.rules.specs.Growing.{GrowOutcome, withMove, otherHalf, mostRounds}
 use Rattle.cells.specs.Layout.{null}
 use Rattle.moving.specs.Slices.{clearHeld}
-use Rattle.halves.specs.Halves.{ofHalf}
+use Rattle.parts.specs.Halves.{ofHalf}
 use Rattle.growthlaws.specs.Rounds.{Enough}
 use Rattle.growthlaws.proofs.Rounds.{enough-one, start-enough}
 use Rattle.growth.specs.Rounds as turns

@@ -11,8 +11,8 @@ use Rattle.rules.specs.Growing as rule
 use Rattle.rules.specs.Growing.{GrowOutcome, Round, rounds, mostRounds}
 use Rattle.cells.specs.Layout.{null, sizeIn, countsOf}
 use Rattle.moving.specs.Slices.{heldIn, clearHeld, wordsBecome, deltasBecome}
-use Rattle.halves.specs.Halves.{halfOf, ofHalf}
-use Rattle.halves.specs.declared.Growing.{Growing}
+use Rattle.parts.specs.Halves.{halfOf, ofHalf}
+use Rattle.parts.specs.declared.Growing.{Growing}
 use Rattle.growth.specs.declared.GrowSaid.{GrowSaid}
 use Rattle.growth.specs.declared.GrowSaid.the-variants as says
 use Rattle.growth.specs.declared.GrowAnswer.{GrowAnswer}

@@ -9,7 +9,7 @@ ghost use Rattle.rules.specs.Growing.{tries, sizes, isFull, otherHalf, grow as 
 ghost use Rattle.cells.specs.Layout.{null, countsOf};
 ghost use Rattle.cells.specs.Workers.{insertSaid};
 ghost use Rattle.moving.specs.Slices.{heldIn, clearHeld};
-ghost use Rattle.halves.specs.Halves.{halfOf, lentHalves};
+ghost use Rattle.parts.specs.Halves.{halfOf, lentHalves};
 ghost use Rattle.growth.specs.Rounds.{Power, Cleared, Room, Halved, Sides, triedOn, triedBy, roundEnd, turnedBy, fullOn, turnOn, turnSides};
 ghost use Rattle.growth.specs.Ends.{Still, turnSaid};
 ghost use Rattle.growth.specs.Growth.{growSaid, grewBy, grewFrom, roundsOn, grownBy, growLeft};
@@ -18,14 +18,14 @@ use cells::Table;
 use cells::insert::InsertSaid;
 use cells::insert::insert_stored;
 use cells::offer;
-use halves::Growing;
-use halves::Half;
-use halves::internal::passes;
 use hashers::Hasher;
 use hashers::hash_of;
 use moving::MoveEnd;
 use moving::clear_both;
 use moving::move_into;
+use parts::Growing;
+use parts::Half;
+use parts::internal::passes;
 use sizing::first_size;
 use sizing::sample;
 

@@ -14,12 +14,12 @@ use Rattle.steps.proofs.Sizes.{size-least}
 use Rattle.laws.proofs.Within.{remove-within}
 use Rattle.cells.specs.Layout.{sizeIn, isShaped, lent, wordsAfter, deltasAfter}
 use Rattle.cells.proofs.Views.{Within}
-use Rattle.halves.specs.Halves.{halfOf, ofHalf, arePair, areHalves, recordFits, lentHalves, usedWords, usedDeltas}
+use Rattle.parts.specs.Halves.{halfOf, ofHalf, arePair, areHalves, recordFits, lentHalves, usedWords, usedDeltas}
 use Rattle.halves.specs.Answers.{inLower, inUpper, halvesBy, removeRule}
-use Rattle.halves.specs.declared.Growing.{Growing}
-use Rattle.halves.proofs.Checks.{both, passed}
+use Rattle.parts.specs.declared.Growing.{Growing}
+use Rattle.parts.proofs.Checks.{both, passed}
 use Rattle.halves.proofs.Fronts.{used-shaped, part-shaped, part-size, part-words, rest-words, part-deltas, rest-deltas, front-find, front-remove, front-insert}
-use Rattle.halves.proofs.Cutting.{part-at}
+use Rattle.parts.proofs.Cutting.{part-at}
 
 -- the half that is changed, afterwards
 changed-half : (h : rule.Half) (f : List ℕ → List ℕ) (l u : List ℕ) → ofHalf h (inLower h f l) (inUpper h f u) ≡ f (ofHalf h l u)

@@ -5,7 +5,7 @@ use mathlib.Core.Path.{_≡_}
 use Prim.Native.Nat.{ℕ}
 use Rattle.hashers.specs.declared.Hasher.{Hasher}
 use Rattle.cells.specs.Layout.{sizeIn, freshWords, freshDeltas}
-use Rattle.halves.specs.Halves.{areHalves, sizeFits}
+use Rattle.parts.specs.Halves.{areHalves, sizeFits}
 use Rattle.halves.specs.Answers.{four, cleared, refuses, freshGrowing, clearHalvesRule}
 
 module _ (lw ld uw ud : List ℕ) (size : ℕ) (hasher : Hasher) where

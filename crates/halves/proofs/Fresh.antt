@@ -12,9 +12,9 @@ use Rattle.hashers.specs.declared.Hasher.{Hasher}
 use Rattle.rules.specs.Sizes.{isSize}
 use Rattle.cells.specs.Layout.{null, sizeIn, freshWords, freshDeltas}
 use Rattle.cells.proofs.Clearing.{fresh-length}
-use Rattle.halves.specs.Halves.{arePair, areHalves, sizeFits, recordFits, usedWords, usedDeltas}
+use Rattle.parts.specs.Halves.{arePair, areHalves, sizeFits, recordFits, usedWords, usedDeltas}
 use Rattle.halves.specs.Answers.{freshGrowing}
-use Rattle.halves.proofs.Checks.{size-holds}
+use Rattle.parts.proofs.Checks.{size-holds}
 use Rattle.halves.proofs.AsTable.{words-are, deltas-are}
 
 -- so many cells, then so many more

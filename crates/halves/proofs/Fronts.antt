@@ -18,11 +18,11 @@ use Rattle.cells.specs.Layout.{null, firstAt, secondAt, Shaped, sizeIn, isShape
 use Rattle.cells.specs.declared.Table.{Table}
 use Rattle.cells.proofs.Views.{LinkWithin, Within}
 use Rattle.laws.proofs.Within.{remove-within}
-use Rattle.halves.specs.Halves.{halfOf, ofHalf, areHalves, recordFits, lentHalves}
-use Rattle.halves.specs.declared.Half.{Half}
-use Rattle.halves.specs.declared.Growing.{Growing}
+use Rattle.parts.specs.Halves.{halfOf, ofHalf, areHalves, recordFits, lentHalves}
+use Rattle.parts.specs.declared.Half.{Half}
+use Rattle.parts.specs.declared.Growing.{Growing}
 use Rattle.halves.proofs.Alike.{Alike, find-same, remove-same, insert-same}
-use Rattle.halves.proofs.Checks.{both, passed, half-shaped}
+use Rattle.parts.proofs.Checks.{both, passed, half-shaped}
 
 -- a table of S cells, past the test of its shape
 abbrev pub tableOf : ℕ → List ℕ → List ℕ → Table → Lent

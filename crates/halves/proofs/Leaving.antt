@@ -15,13 +15,13 @@ use Rattle.cells.specs.declared.Table.{Table}
 use Rattle.cells.proofs.Views.{Within}
 use Rattle.hashmap.specs.Answers.{removeLeft}
 use Rattle.hashmap.specs.declared.RemoveAnswer.{RemoveAnswer}
-use Rattle.halves.specs.Halves.{halfOf, areHalves, recordFits, lentHalves}
+use Rattle.parts.specs.Halves.{halfOf, areHalves, recordFits, lentHalves}
 use Rattle.halves.specs.Answers.{four, fourAfter, HalvesLeft, halvesBy, removeRule, removedFrom, removeHalvesLeft}
-use Rattle.halves.specs.declared.Half.{Half}
-use Rattle.halves.specs.declared.Half.the-variants.{Lower, Upper}
-use Rattle.halves.specs.declared.Growing.{Growing}
+use Rattle.parts.specs.declared.Half.{Half}
+use Rattle.parts.specs.declared.Half.the-variants.{Lower, Upper}
+use Rattle.parts.specs.declared.Growing.{Growing}
 use Rattle.halves.specs.declared.GrowingRemoveAnswer.{GrowingRemoveAnswer}
-use Rattle.halves.proofs.Checks.{shape-fails}
+use Rattle.parts.proofs.Checks.{shape-fails}
 use Rattle.halves.proofs.Fronts.{words-joined, deltas-joined, front-remove}
 
 -- a call on the parts left this in them; with the rest behind, the slices are left by the same outcome

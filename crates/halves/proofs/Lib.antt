@@ -1,10 +1,7 @@
-pub mod Checks
 pub mod Alike
 pub mod Fronts
-pub mod Cutting
 pub mod Leaving
 pub mod Cleared
 pub mod AsTable
 pub mod Fresh
 pub mod Refusals
-pub mod Which

@@ -11,10 +11,10 @@ use Rattle.rules.specs.Answers.{refused, nothing, Outcome}
 use Rattle.rules.specs.Calls.{remove}
 use Rattle.cells.specs.Layout.{sizeIn, freshWords, freshDeltas}
 use Rattle.laws.proofs.Refusals.{remove-refused-leaves}
-use Rattle.halves.specs.Halves.{halfOf, ofHalf, areHalves, sizeFits, lentHalves}
+use Rattle.parts.specs.Halves.{halfOf, ofHalf, areHalves, sizeFits, lentHalves}
 use Rattle.halves.specs.Answers.{Four, four, fourAfter, HalvesCleared, cleared, refuses, freshGrowing, clearHalvesRule, halvesBy, removeRule}
-use Rattle.halves.specs.declared.Half.{Half}
-use Rattle.halves.specs.declared.Growing.{Growing}
+use Rattle.parts.specs.declared.Half.{Half}
+use Rattle.parts.specs.declared.Growing.{Growing}
 
 module _ (lw ld uw ud : List ℕ) where
   -- a change that is nothing leaves all four

@@ -10,10 +10,10 @@ use Rattle.rules.specs.Calls as calls
 use Rattle.cells.specs.Layout.{sizeIn, freshWords, freshDeltas, wordsAfter, deltasAfter}
 use Rattle.hashmap.specs.Answers.{removeSaid}
 use Rattle.hashmap.specs.declared.RemoveAnswer.{RemoveAnswer}
-use Rattle.halves.specs.Halves.{halfOf, areHalves, sizeFits, lentHalves, withTable}
-use Rattle.halves.specs.declared.Half.{Half}
-use Rattle.halves.specs.declared.Half.the-variants.{Lower}
-use Rattle.halves.specs.declared.Growing.{Growing}
+use Rattle.parts.specs.Halves.{halfOf, areHalves, sizeFits, lentHalves, withTable}
+use Rattle.parts.specs.declared.Half.{Half}
+use Rattle.parts.specs.declared.Half.the-variants.{Lower}
+use Rattle.parts.specs.declared.Growing.{Growing}
 use Rattle.halves.specs.declared.ClearHalvesSaid.{ClearHalvesSaid}
 use Rattle.halves.specs.declared.ClearHalvesSaid.the-variants as clears
 use Rattle.halves.specs.declared.GrowingRemoveAnswer.{GrowingRemoveAnswer}

@@ -1,16 +1,10 @@
 // The two halves: a growing table lies in the front of one of two lent halves of C cells each, and its record says where.
 // Every call is defined for any slices and any record.
-pub mod internal;
-mod parts;
-mod record;
-
 pub use hashmap::FindAnswer;
 pub use hashmap::FindSaid;
 pub use hashmap::RemoveSaid;
-pub use parts::used_deltas;
-pub use parts::used_words;
-pub use record::table;
-pub use record::with_table;
+pub use parts::Growing;
+pub use parts::Half;
 ghost use mathlib.Core.Path.{_≡_};
 ghost use Prim.Native.Nat.{_*_};
 ghost use lib.ListN.{take};
@@ -18,27 +12,14 @@ ghost use Rattle.rules.specs.Calls.{find as find·rule, remove as remove·rule}
 ghost use Rattle.rules.specs.Growing.{inUse};
 ghost use Rattle.cells.specs.Layout.{Shaped, lent, leftBy};
 ghost use Rattle.hashmap.specs.Answers.{findAnswer, removeLeft};
-ghost use Rattle.halves.specs.Halves.{lentHalves};
+ghost use Rattle.parts.specs.Halves.{lentHalves};
 ghost use Rattle.halves.specs.Answers.{clearHalvesLeft, clearHalvesRule, removeHalvesLeft, removeRule, removedFrom};
 use cells::Table;
 use hashers::Hasher;
-use internal::are_halves;
-use internal::passes;
-use internal::size_fits;
 use moving::clear_both;
-
-// The half in use.
-pub enum Half {
-    Lower,
-    Upper,
-}
-
-// The record of a growing table.
-pub struct Growing {
-    pub table: Table,
-    pub size: usize,
-    pub half: Half,
-}
+use parts::internal::are_halves;
+use parts::internal::passes;
+use parts::internal::size_fits;
 
 pub enum ClearHalvesSaid {
     Cleared(Growing),

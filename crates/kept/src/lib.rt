@@ -10,9 +10,9 @@ use forms::digest::lent_bytes;
 use forms::digest::lent_words;
 use forms::digest::mix;
 use forms::kinds;
-use halves::Growing;
-use halves::Half;
 use hashers::Hasher;
+use parts::Growing;
+use parts::Half;
 
 // The record, how much is lent of the table's arrays and of the spare ones, whether each answer has a digest, the cursor and entry
 // that are held, and the size and the half in use of a growing table, which has the same table record.

@@ -4,9 +4,9 @@ use mathlib.Core.Path.{_≡_, refl, ap}
 use Prim.Native.Nat.{ℕ, zero, suc}
 use Rattle.rules.specs.Answers.{Said, found, absent, new, replaced, revived, removed, refused}
 use Rattle.rules.specs.Growing.{grow as grow·rule}
-use Rattle.halves.specs.Halves.{halfOf, lentHalves}
-use Rattle.halves.specs.declared.Growing.{Growing}
-use Rattle.halves.proofs.Which.{unhalf, half-back}
+use Rattle.parts.specs.Halves.{halfOf, lentHalves}
+use Rattle.parts.specs.declared.Growing.{Growing}
+use Rattle.parts.proofs.Which.{unhalf, half-back}
 use Rattle.growth.specs.Growth.{growSaid, GrownLeft, grownBy, growLeft}
 use Rattle.growth.specs.declared.GrowSaid.{GrowSaid}
 use Rattle.growth.specs.declared.GrowSaid.the-variants as says

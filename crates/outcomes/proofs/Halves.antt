@@ -5,12 +5,11 @@ use Prim.Native.Nat.{ℕ}
 use Rattle.hashers.specs.declared.Hasher.{Hasher}
 use Rattle.rules.specs.Growing.{inUse}
 use Rattle.rules.specs.Calls.{find as find·rule}
-use Rattle.cells.specs.declared.Table.{Table}
 use Rattle.hashmap.specs.Answers.{findAnswer}
 use Rattle.hashmap.specs.declared.FindAnswer.{FindAnswer}
-use Rattle.halves.specs.Halves.{lentHalves, usedWords, usedDeltas, withTable}
+use Rattle.parts.specs.Halves.{lentHalves}
 use Rattle.halves.specs.Answers.{Clear, cleared, refuses, HalvesCleared, clearHalvesSaid, clearHalvesLeft, clearHalvesRule, HalvesLeft, removeHalvesLeft, removeRule}
-use Rattle.halves.specs.declared.Growing.{Growing}
+use Rattle.parts.specs.declared.Growing.{Growing}
 use Rattle.halves.specs.declared.ClearHalvesSaid.{ClearHalvesSaid}
 use Rattle.halves.specs.declared.ClearHalvesSaid.the-variants as clears
 use Rattle.halves.specs.declared.GrowingRemoveAnswer.{GrowingRemoveAnswer}
@@ -56,19 +55,3 @@ remove-one-outcome lower-words lower-deltas upper-words upper-deltas growing key
       ap (λ (y : HalvesLeft). y .left .lowerWords) e,
       ap (λ (y : HalvesLeft). y .left .upperWords) e,
     )
-
--- ---- the parts: t is the numbers that are handed out
-
-pub used-words-one-outcome : (lower upper : List ℕ) (growing : Growing) (t₁ t₂ : List ℕ) → t₁ ≡ usedWords lower upper growing → t₂ ≡ usedWords lower upper growing → t₁ ≡ t₂
-used-words-one-outcome lower upper growing t₁ t₂ e₁ e₂ = both e₁ e₂
-
-pub used-deltas-one-outcome : (lower upper : List ℕ) (growing : Growing) (t₁ t₂ : List ℕ) → t₁ ≡ usedDeltas lower upper growing → t₂ ≡ usedDeltas lower upper growing → t₁ ≡ t₂
-used-deltas-one-outcome lower upper growing t₁ t₂ e₁ e₂ = both e₁ e₂
-
--- ---- the record
-
-pub table-one-outcome : (growing : Growing) (r₁ r₂ : Table) → r₁ ≡ growing .table → r₂ ≡ growing .table → r₁ ≡ r₂
-table-one-outcome growing r₁ r₂ e₁ e₂ = both e₁ e₂
-
-pub with-table-one-outcome : (growing : Growing) (table : Table) (r₁ r₂ : Growing) → r₁ ≡ withTable growing table → r₂ ≡ withTable growing table → r₁ ≡ r₂
-with-table-one-outcome growing table r₁ r₂ e₁ e₂ = both e₁ e₂

@@ -9,6 +9,7 @@ pub mod Buckets
 pub mod Bucketfind
 pub mod Checker
 pub mod Moves
+pub mod Parts
 pub mod Halves
 pub mod Growth
 pub mod Hashiter

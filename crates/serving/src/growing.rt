@@ -7,9 +7,9 @@ use forms::kinds;
 use forms::said;
 use forms::told;
 use grows::Grown;
-use halves::Growing;
-use halves::Half;
 use kept::State;
+use parts::Growing;
+use parts::Half;
 
 // The call on what is lent.
 fn serve(

@@ -5,7 +5,7 @@ use mathlib.Core.Path.{refl}
 use Prim.Native.Nat.{_-_}
 use native.Mathlib.Omega.{arith}
 use Rattle.rules.specs.Growing.{mostRounds}
-use Rattle.halves.specs.Halves.{halfOf}
+use Rattle.parts.specs.Halves.{halfOf}
 use Rattle.growth.proofs.Loop.{Turning, turning, sides, few, still, stops, goes-on}
 use Rattle.growth.proofs.grow_in.Statement.{statement}
 use Rattle.growth.proofs.grow_in.Tie as tie

@@ -2,7 +2,7 @@
 use mathlib.Core.Path.{sym, ap, subst, _∙_}
 use denote.Ref.{now}
 use borrow.Author.Needs.{needs}
-use Rattle.halves.specs.Halves.{halfOf}
+use Rattle.parts.specs.Halves.{halfOf}
 use Rattle.growth.specs.Rounds.{Sides, turnSides, swapped}
 use Rattle.growth.proofs.turn.Statement.{statement}
 use Rattle.growth.proofs.turn.Tie as tie

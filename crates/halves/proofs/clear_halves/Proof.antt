@@ -3,7 +3,7 @@ use borrow.Author.Needs.{needs}
 use native.Mathlib.Omega.{arith}
 use mathlib.Core.Path.{sym, _∙_}
 use Rattle.halves.proofs.Cleared.{clears, keeps-size, keeps-halves}
-use Rattle.halves.proofs.Checks.{halves-hold}
+use Rattle.parts.proofs.Checks.{halves-hold}
 use Rattle.halves.proofs.clear_halves.Statement.{statement}
 use Rattle.halves.proofs.clear_halves.Tie as tie
 

@@ -3,9 +3,9 @@ use borrow.Author.Needs.{needs}
 use native.Mathlib.Omega.{arith}
 use mathlib.Core.Path.{sym, _∙_}
 use Rattle.steps.proofs.Branches.{find-shape}
-use Rattle.halves.specs.declared.Half.the-variants.{Lower, Upper}
+use Rattle.parts.specs.declared.Half.the-variants.{Lower, Upper}
 use Rattle.halves.proofs.Fronts.{front-find}
-use Rattle.halves.proofs.Checks.{passed, shape-fails}
+use Rattle.parts.proofs.Checks.{passed, shape-fails}
 use Rattle.halves.proofs.find.Statement.{statement}
 use Rattle.halves.proofs.find.Tie as tie
 

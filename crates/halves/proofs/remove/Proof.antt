@@ -3,7 +3,7 @@ use borrow.Author.Needs.{needs}
 use native.Mathlib.Omega.{arith}
 use mathlib.Core.Path.{sym, _∙_}
 use Rattle.halves.proofs.Leaving.{removed-lower, removed-upper, remove-kept}
-use Rattle.halves.proofs.Checks.{passed}
+use Rattle.parts.proofs.Checks.{passed}
 use Rattle.halves.proofs.remove.Statement.{statement}
 use Rattle.halves.proofs.remove.Tie as tie
 
