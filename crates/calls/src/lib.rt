@@ -6,14 +6,14 @@ use forms::said;
 use forms::told;
 use forms::told::Told;
 use hashers::Hasher;
-use hashmap::CapacitySaid;
 use hashmap::ClearSaid;
-use hashmap::ContainsSaid;
 use hashmap::FindSaid;
 use hashmap::InsertSaid;
-use hashmap::KeyValueSaid;
 use hashmap::RemoveSaid;
 use hashmap::Table;
+use hashreads::CapacitySaid;
+use hashreads::ContainsSaid;
+use hashreads::KeyValueSaid;
 
 // What a call said, and the record after it.
 pub struct Called {
@@ -126,7 +126,7 @@ fn cleared(answer: ClearSaid, table: Table) -> Called {
 }
 
 fn is_empty(table: Table) -> Told {
-    if hashmap::is_empty(table) {
+    if hashreads::is_empty(table) {
         return told::plain(said::YES);
     }
     told::plain(said::NO)
@@ -174,10 +174,10 @@ fn remove(words: &mut [u64], deltas: &[u8], table: Table, key: u64) -> Called {
 fn asked(words: &[u64], deltas: &[u8], table: Table, kind: u64, key: u64) -> Told {
     match kind {
         kinds::FIND => find(words, deltas, table, key),
-        kinds::CAPACITY => sized(hashmap::capacity(words, deltas)),
-        kinds::CONTAINS_KEY => contained(hashmap::contains_key(words, deltas, table, key)),
+        kinds::CAPACITY => sized(hashreads::capacity(words, deltas)),
+        kinds::CONTAINS_KEY => contained(hashreads::contains_key(words, deltas, table, key)),
         kinds::CHECK => checked(checker::check(words, deltas, table)),
-        kinds::GET_KEY_VALUE => paired(hashmap::get_key_value(words, deltas, table, key)),
+        kinds::GET_KEY_VALUE => paired(hashreads::get_key_value(words, deltas, table, key)),
         _ => of_record(table, kind, key),
     }
 }
@@ -186,7 +186,7 @@ fn asked(words: &[u64], deltas: &[u8], table: Table, kind: u64, key: u64) -> Tol
 fn of_record(table: Table, kind: u64, key: u64) -> Told {
     let hasher = table.hasher;
     match kind {
-        kinds::LEN => told::carrying(said::NUMBER, hashmap::len(table) as u64),
+        kinds::LEN => told::carrying(said::NUMBER, hashreads::len(table) as u64),
         kinds::IS_EMPTY => is_empty(table),
         kinds::HASH => told::carrying(said::NUMBER, hashers::hash_of(hasher, key)),
         _ => told::plain(said::UNKNOWN),
@@ -211,7 +211,7 @@ pub fn serve(words: &mut [u64], deltas: &mut [u8], table: Table, request: Reques
 
 // How many cells the slices hold; 0 for a bad shape.
 pub fn capacity_of(words: &[u64], deltas: &[u8]) -> u64 {
-    match hashmap::capacity(words, deltas) {
+    match hashreads::capacity(words, deltas) {
         CapacitySaid::Cells(n) => n as u64,
         CapacitySaid::Shape => 0,
     }

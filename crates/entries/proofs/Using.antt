@@ -3,18 +3,16 @@ use mathlib.Core.Bool.{Bool, true, false, cond, not, _&&_, _||_}
 use mathlib.Core.List.{List, []}
 use mathlib.Core.Logic.{_≢_}
 use mathlib.Core.Path.{_≡_, refl, sym, ap, _∙_}
-use Prim.Native.Nat.{ℕ, _+_, _*_, _%_, _≤_, _<_}
+use Prim.Native.Nat.{ℕ, _+_, _*_, _≤_, _<_}
 use native.Mathlib.Omega.{arith}
 use borrow.Author.Tests.{eq-eqb, ne-eqb, eqb-true, ltb-true}
 use lib.Dec.{eqb, leb}
 use lib.ListN.{length}
 use Rattle.hashers.specs.Keys.{hashOf}
-use Rattle.rules.specs.Cells.{Cells, Lent, shape}
-use Rattle.rules.specs.Walk.{Stop, met, walk}
+use Rattle.rules.specs.Cells.{Lent, shape}
 use Rattle.rules.specs.Answers.{Answer, refused, Outcome, leave, unless}
 use Rattle.rules.specs.Calls.{findIn}
-use Rattle.rules.specs.Entries.{Place, occupied, vacant, Entry, made, refuses, makeAt, makeIn, entryOf, Action, inserting, below, useShape, offers, isFound, outdated, stale, usedAt, usedVacant, used, useEntry}
-use Rattle.steps.specs.Steps.{Ends}
+use Rattle.rules.specs.Entries.{Place, occupied, vacant, Entry, Action, inserting, below, useShape, offers, isFound, outdated, stale, usedAt, usedVacant, used, useEntry}
 use Rattle.steps.proofs.Branches.{find-past}
 use Rattle.cells.specs.declared.Table.{Table}
 use Rattle.cells.specs.Layout.{Shaped, null, isShaped, sizeIn, lent, hashIn, valueIn, holdsIn}

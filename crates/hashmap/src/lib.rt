@@ -1,18 +1,7 @@
 // The table of fixed size: two lent slices and a record by value. Every call is defined for any slices and any record.
-mod small;
-
 pub use cells::Table;
 pub use cells::insert::FullAt;
 pub use cells::insert::InsertSaid;
-pub use small::CapacitySaid;
-pub use small::ContainsSaid;
-pub use small::KeyValue;
-pub use small::KeyValueSaid;
-pub use small::capacity;
-pub use small::contains_key;
-pub use small::get_key_value;
-pub use small::is_empty;
-pub use small::len;
 ghost use mathlib.Core.Path.{_≡_};
 ghost use Rattle.rules.specs.Calls.{findIn, removeIn, find as find·rule, remove as remove·rule, insert as insert·rule};
 ghost use Rattle.cells.specs.Layout.{null, view, valueIn, countsOf, lent, doneBy, leftBy, Shaped};

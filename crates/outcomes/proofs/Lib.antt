@@ -5,6 +5,7 @@ pub mod One
 pub mod Util
 pub mod Hashers
 pub mod Hashmap
+pub mod Hashreads
 pub mod Buckets
 pub mod Bucketfind
 pub mod Checker

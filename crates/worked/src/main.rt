@@ -122,7 +122,7 @@ fn fresh(words: &mut [u64], deltas: &mut [u8]) -> Table {
 
 fn live(table: Table) {
     text(b"live ");
-    number(hashmap::len(table) as u64);
+    number(hashreads::len(table) as u64);
     text(b"\n");
 }
 

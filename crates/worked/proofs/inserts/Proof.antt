@@ -1,6 +1,6 @@
 -- `worked::inserts` reads inside its pairs and keeps the slices' lengths. Assumes nothing.
 use borrow.Author.Needs.{needs}
-use mathlib.Core.Path.{_≡_, _∙_}
+use mathlib.Core.Path.{_≡_}
 use Prim.Native.Nat.{_-_, _*_, _^_, _≤_, _<_}
 use lib.ListN.{length}
 use Rattle.worked.proofs.inserts.Statement.{statement}

@@ -1,12 +1,12 @@
--- `hashmap::small::contains_key` meets its contract. Assumes nothing.
+-- `hashreads::contains_key` meets its contract. Assumes nothing.
 use borrow.Author.Needs.{needs}
 use mathlib.Core.Path.{sym, ap, _∙_}
 use Rattle.rules.specs.Answers.{Answer}
 use Rattle.hashmap.specs.Answers.{findSaid}
-use Rattle.hashmap.specs.Small.{contains}
+use Rattle.hashreads.specs.Answers.{contains}
 use Rattle.hashmap.specs.declared.FindSaid.{FindSaid}
-use Rattle.hashmap.proofs.small.contains_key.Statement.{statement}
-use Rattle.hashmap.proofs.small.contains_key.Tie as tie
+use Rattle.hashreads.proofs.contains_key.Statement.{statement}
+use Rattle.hashreads.proofs.contains_key.Tie as tie
 
 find-requires : tie.Need-find-requires
 find-requires c κs = search needs

@@ -1,12 +1,12 @@
--- `hashmap::small::get_key_value` meets its contract. Assumes nothing.
+-- `hashreads::get_key_value` meets its contract. Assumes nothing.
 use borrow.Author.Needs.{needs}
 use mathlib.Core.Path.{sym, ap, _∙_}
 use Rattle.rules.specs.Answers.{Answer}
 use Rattle.hashmap.specs.Answers.{findSaid}
-use Rattle.hashmap.specs.Small.{keyValue}
+use Rattle.hashreads.specs.Answers.{keyValue}
 use Rattle.hashmap.specs.declared.FindSaid.{FindSaid}
-use Rattle.hashmap.proofs.small.get_key_value.Statement.{statement}
-use Rattle.hashmap.proofs.small.get_key_value.Tie as tie
+use Rattle.hashreads.proofs.get_key_value.Statement.{statement}
+use Rattle.hashreads.proofs.get_key_value.Tie as tie
 
 find-requires : tie.Need-find-requires
 find-requires c κs = search needs

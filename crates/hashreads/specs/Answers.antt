@@ -1,15 +1,15 @@
--- What the small calls say.
+-- What is said: each case by 01's number and values.
 use mathlib.Core.Bool.{cond}
 use mathlib.Core.List.{List}
 use Prim.Native.Nat.{ℕ}
 use Rattle.rules.specs.Answers.{Said, found, absent, new, replaced, revived, removed, refused}
 use Rattle.cells.specs.Layout.{sizeIn, isShaped}
-use Rattle.hashmap.specs.declared.small.CapacitySaid.{CapacitySaid}
-use Rattle.hashmap.specs.declared.small.CapacitySaid.the-variants as capacities
-use Rattle.hashmap.specs.declared.small.ContainsSaid.{ContainsSaid}
-use Rattle.hashmap.specs.declared.small.ContainsSaid.the-variants as containing
-use Rattle.hashmap.specs.declared.small.KeyValueSaid.{KeyValueSaid}
-use Rattle.hashmap.specs.declared.small.KeyValueSaid.the-variants as pairs
+use Rattle.hashreads.specs.declared.CapacitySaid.{CapacitySaid}
+use Rattle.hashreads.specs.declared.CapacitySaid.the-variants as capacities
+use Rattle.hashreads.specs.declared.ContainsSaid.{ContainsSaid}
+use Rattle.hashreads.specs.declared.ContainsSaid.the-variants as containing
+use Rattle.hashreads.specs.declared.KeyValueSaid.{KeyValueSaid}
+use Rattle.hashreads.specs.declared.KeyValueSaid.the-variants as pairs
 
 -- a number, or a refusal by its number
 pub data Capacity : Type 0 where

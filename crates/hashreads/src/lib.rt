@@ -1,13 +1,14 @@
-// The small calls: counts, and lookups that ask less than find or hand back more.
+// What else is asked of a table: counts, and lookups that ask less than find or hand back more. Every call is defined for any slices
+// and any record.
 ghost use mathlib.Core.Path.{_≡_};
 ghost use lib.Dec.{eqb};
 ghost use Rattle.rules.specs.Calls.{find as find·rule};
 ghost use Rattle.cells.specs.Layout.{lent};
-ghost use Rattle.hashmap.specs.Small.{containsSaid, contains, keyValueSaid, keyValue, capacitySaid, capacityRule};
-use crate::FindSaid;
-use crate::find;
+ghost use Rattle.hashreads.specs.Answers.{containsSaid, contains, keyValueSaid, keyValue, capacitySaid, capacityRule};
 use cells::Table;
 use cells::is_shaped;
+use hashmap::FindSaid;
+use hashmap::find;
 
 // How many live cells the record counts.
 pub fn len(table: Table) -> usize

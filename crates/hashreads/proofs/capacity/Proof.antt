@@ -1,9 +1,9 @@
--- `hashmap::small::capacity` meets its contract. Assumes nothing.
+-- `hashreads::capacity` meets its contract. Assumes nothing.
 use borrow.Author.Needs.{needs}
 use mathlib.Core.Path.{sym, _∙_}
-use Rattle.hashmap.specs.Small.{capacityRule}
-use Rattle.hashmap.proofs.small.capacity.Statement.{statement}
-use Rattle.hashmap.proofs.small.capacity.Tie as tie
+use Rattle.hashreads.specs.Answers.{capacityRule}
+use Rattle.hashreads.proofs.capacity.Statement.{statement}
+use Rattle.hashreads.proofs.capacity.Tie as tie
 
 is-shaped-requires : tie.Need-is-shaped-requires
 is-shaped-requires c κs = search needs
