@@ -2,13 +2,13 @@
 use crate::Hand;
 use crate::Handed;
 use cells::Table;
+use entryinsert::EntryInsertAnswer;
+use entryinsert::EntryInsertSaid;
 use forms::hand;
 use forms::said;
 use forms::told;
 use forms::told::Told;
 use hashentry::Entry;
-use hashentry::EntryInsertAnswer;
-use hashentry::EntryInsertSaid;
 use hashentry::Place;
 
 fn inserted(answer: EntryInsertSaid) -> Told {
@@ -49,9 +49,9 @@ fn call(
     value: u64,
 ) -> EntryInsertAnswer {
     match kind {
-        hand::ENTRY_INSERT => hashentry::insert(words, deltas, table, entry, value),
-        hand::OR_INSERT => hashentry::or_insert(words, deltas, table, entry, value),
-        _ => hashentry::insert_entry(words, deltas, table, entry, value),
+        hand::ENTRY_INSERT => entryinsert::insert(words, deltas, table, entry, value),
+        hand::OR_INSERT => entryinsert::or_insert(words, deltas, table, entry, value),
+        _ => entryinsert::insert_entry(words, deltas, table, entry, value),
     }
 }
 

@@ -1,3 +1,1 @@
 pub mod Using
-pub mod Placing
-pub mod Handing

@@ -10,17 +10,15 @@ use lib.Dec.{eqb, leb}
 use lib.ListN.{length}
 use Rattle.hashers.specs.Keys.{hashOf}
 use Rattle.rules.specs.Cells.{Lent, shape}
-use Rattle.rules.specs.Answers.{Answer, refused, Outcome, leave, unless}
-use Rattle.rules.specs.Calls.{findIn}
-use Rattle.rules.specs.Entries.{Place, occupied, vacant, Entry, Action, inserting, below, useShape, offers, isFound, outdated, stale, usedAt, usedVacant, used, useEntry}
-use Rattle.steps.proofs.Branches.{find-past}
+use Rattle.rules.specs.Answers.{refused, Outcome, leave, unless}
+use Rattle.rules.specs.Entries.{Place, occupied, vacant, Entry, Action, below, useShape, offers, outdated, stale, usedAt, usedVacant, used, useEntry}
 use Rattle.cells.specs.declared.Table.{Table}
 use Rattle.cells.specs.Layout.{Shaped, null, isShaped, sizeIn, lent, hashIn, valueIn, holdsIn}
 use Rattle.cells.proofs.Shapes.{words-hold, passed}
 use Rattle.entries.specs.declared.looking.CellValue.{CellValue}
 use Rattle.entries.specs.declared.looking.Looked.{Looked}
 use Rattle.entries.specs.declared.looking.Looked.the-variants.{Held, ZeroHash, Stale}
-use Rattle.entries.specs.Workers.{HeldAt, Unheld, other-hash, not-occupied, lost, gone, Looks, putIn}
+use Rattle.entries.specs.Workers.{HeldAt, Unheld, other-hash, not-occupied, lost, gone, Looks}
 
 -- ---- the checks of a use
 
@@ -127,25 +125,6 @@ module _ (ws ds : List ℕ) (t : Table) (e : Entry) (a : Action) (s : useShape (
       lives-not true true = refl
       lives-not true false = refl
       lives-not false y = refl
-
--- ---- a Vacant entry's insert
-
-module _ (l : Lent) (e : Entry) (v : ℕ) (s : useShape l (e .place) ≡ 0) (o : offers (l .params .null) (inserting v) ≡ 0) (some : l .params .hashOf (e .key) ≢ 0)
-    (at : e .place ≡ vacant) (own : e .hash ≡ l .params .hashOf (e .key)) where
-  pub use-put : useEntry l e (inserting v) ≡ putIn (l .params .S) (l .params .null) (l .cells) (l .value) (l .counts) (e .hash) (e .key) v
-  unfolding putIn
-  use-put = go (isFound (findIn (l .params .S) (l .params .null) (l .cells) (l .value) (e .hash) (e .key) .said)) refl
-    where
-      found-as : outdated l e (e .place) ≡ isFound (findIn (l .params .S) (l .params .null) (l .cells) (l .value) (e .hash) (e .key) .said)
-      found-as =
-          rw at
-          (ap (λ (x : Answer). isFound (x .said)) (sym (find-past l (e .key) (e .hash) own (use-shaped l (e .place) s) (λ z. some (sym own ∙ z)))))
-
-      go : (b : Bool) → isFound (findIn (l .params .S) (l .params .null) (l .cells) (l .value) (e .hash) (e .key) .said) ≡ b
-          → useEntry l e (inserting v)
-          ≡ cond {A = Outcome} b (leave (refused 7 []) 0 (l .counts)) (usedVacant l e (inserting v))
-      go true q = use-stale l e (inserting v) s o some (stale-outdated l e (found-as ∙ q))
-      go false q = use-past l e (inserting v) s o some (stale-not l e own (found-as ∙ q)) ∙ rw at
 
 -- ---- the same by what the code's look answered
 

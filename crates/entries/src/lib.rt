@@ -1,5 +1,3 @@
-// Internal: what the calls of hashentry share. The entry record, the checks of its use, and the calls that insert.
-pub mod giving;
+// Internal: the entry record and the checks of its use, for the calls of hashentry and entryinsert.
 pub mod looking;
 pub mod record;
-pub mod vacant;

@@ -1,17 +1,12 @@
-// Entries: a key with its hash and its cell, made from a key and used at once or late, over the lent slices and the record.
+// Entries: a key with its hash and its cell, made from a key and used at once or late, over the lent slices and the record. The
+// calls that insert are in entryinsert.
 // Every call is defined for any slices, any record and any entry.
-mod inserting;
 mod making;
 mod occupied;
 
-pub use entries::giving::EntryInsertAnswer;
 pub use entries::record::CellAt;
 pub use entries::record::Entry;
 pub use entries::record::Place;
-pub use entries::vacant::EntryInsertSaid;
-pub use inserting::insert;
-pub use inserting::insert_entry;
-pub use inserting::or_insert;
 pub use making::EntrySaid;
 pub use making::entry;
 pub use making::key;

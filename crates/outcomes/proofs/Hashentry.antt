@@ -1,13 +1,13 @@
 -- One outcome for each call of hashentry. Assumes nothing.
-use mathlib.Core.List.{List, [], _∷_}
+use mathlib.Core.List.{List}
 use mathlib.Core.Path.{_≡_, refl, ap}
 use Prim.Native.Nat.{ℕ, zero, suc}
 use Rattle.rules.specs.Answers.{Said, found, absent, new, replaced, revived, removed, refused}
 use Rattle.rules.specs.Entries as rule
-use Rattle.rules.specs.Entries.{Making, made, refuses, entryOf, getBy, replaceBy, removeBy, insertBy, orInsertBy, insertEntryBy}
+use Rattle.rules.specs.Entries.{Making, made, refuses, entryOf, getBy, replaceBy, removeBy}
 use Rattle.cells.specs.Layout.{Left, lent, leftBy}
 use Rattle.cells.specs.declared.Table.{Table}
-use Rattle.entries.specs.Answers.{placeOf, entryIn, leftAs, entryInsertSaid, Handed, handedBy, insertHanded}
+use Rattle.entries.specs.Answers.{placeOf, entryIn, leftAs}
 use Rattle.hashentry.specs.Answers.{making, getSaid, replaceSaid, replaceLeft, entryRemoveSaid, removeLeft, Keyed, withKey, removeEntryLeft}
 use Rattle.entries.specs.declared.record.Place.{Place}
 use Rattle.entries.specs.declared.record.Place.the-variants.{Occupied, Vacant}
@@ -22,9 +22,6 @@ use Rattle.hashentry.specs.declared.occupied.EntryRemoveSaid.{EntryRemoveSaid}
 use Rattle.hashentry.specs.declared.occupied.EntryRemoveSaid.the-variants as removes
 use Rattle.hashentry.specs.declared.occupied.EntryRemoveAnswer.{EntryRemoveAnswer}
 use Rattle.hashentry.specs.declared.occupied.RemoveEntryAnswer.{RemoveEntryAnswer}
-use Rattle.entries.specs.declared.vacant.EntryInsertSaid.{EntryInsertSaid}
-use Rattle.entries.specs.declared.vacant.EntryInsertSaid.the-variants as inserts
-use Rattle.entries.specs.declared.giving.EntryInsertAnswer.{EntryInsertAnswer}
 use Rattle.outcomes.proofs.One.{both, one}
 
 -- ---- entry and key
@@ -38,10 +35,10 @@ place-back : (a : Place) → unplace (placeOf a) ≡ a
 place-back (Occupied cell) = refl
 place-back Vacant = refl
 
-abbrev unentry : rule.Entry → Entry
+abbrev pub unentry : rule.Entry → Entry
 unentry e = record { key = e .key; hash = e .hash; place = unplace (e .place) }
 
-entry-back : (a : Entry) → unentry (entryIn a) ≡ a
+pub entry-back : (a : Entry) → unentry (entryIn a) ≡ a
 entry-back a = λ i. record { key = a .key; hash = a .hash; place = place-back (a .place) i }
 
 abbrev unmake : Making → EntrySaid
@@ -147,7 +144,7 @@ remove-back removes.Broken = refl
 remove-back removes.Stale = refl
 
 -- the record that a call hands back
-same-table : (s s′ : Said) (t t′ : Table) (ws ds ws′ ds′ : List ℕ) → leftAs s t ws ds ≡ leftAs s′ t′ ws′ ds′ → t ≡ t′
+pub same-table : (s s′ : Said) (t t′ : Table) (ws ds ws′ ds′ : List ℕ) → leftAs s t ws ds ≡ leftAs s′ t′ ws′ ds′ → t ≡ t′
 same-table s s′ t t′ ws ds ws′ ds′ e = λ i. record { hasher = e i .hasher; live = e i .done .counts .live }
 
 pub remove-one-outcome : (words deltas : List ℕ) (table : Table) (entry : Entry) (r₁ r₂ : EntryRemoveAnswer) (words₁ words₂ : List ℕ)
@@ -170,60 +167,3 @@ remove-entry-one-outcome words deltas table entry r₁ r₂ words₁ words₂ e�
     let s = one entryRemoveSaid unremove remove-back (r₁ .said) (r₂ .said) (ap (λ (y : Left). y .done .said) e) in
     let t = same-table _ _ (r₁ .table) (r₂ .table) words₁ deltas words₂ deltas e in
     (λ i. record { said = s i; key = k i; table = t i }, ap (λ (y : Left). y .done .words) e)
-
--- ---- insert, or_insert and insert_entry
-
-abbrev uninsert : Said → EntryInsertSaid
-uninsert new = inserts.New
-uninsert (replaced v) = inserts.Replaced v
-uninsert revived = inserts.Revived
-uninsert (found v) = inserts.Found v
-uninsert (refused zero l) = inserts.Stale
-uninsert (refused (suc zero) l) = inserts.Shape
-uninsert (refused (suc (suc zero)) l) = inserts.ZeroHash
-uninsert (refused (suc (suc (suc zero))) l) = inserts.Null
-uninsert (refused (suc (suc (suc (suc zero)))) []) = inserts.Stale
-uninsert (refused (suc (suc (suc (suc zero)))) (p ∷ l)) = inserts.Full (record { position = p })
-uninsert (refused (suc (suc (suc (suc (suc zero))))) l) = inserts.Broken
-uninsert (refused (suc (suc (suc (suc (suc (suc n)))))) l) = inserts.Stale
-uninsert absent = inserts.Stale
-uninsert (removed v) = inserts.Stale
-
-insert-back : (a : EntryInsertSaid) → uninsert (entryInsertSaid a) ≡ a
-insert-back inserts.New = refl
-insert-back (inserts.Replaced v) = refl
-insert-back inserts.Revived = refl
-insert-back (inserts.Found v) = refl
-insert-back inserts.Shape = refl
-insert-back inserts.ZeroHash = refl
-insert-back inserts.Null = refl
-insert-back (inserts.Full at) = refl
-insert-back inserts.Broken = refl
-insert-back inserts.Stale = refl
-
--- the three calls are read alike
-handed-one : (a b : EntryInsertAnswer) (ws ds ws′ ds′ : List ℕ) → insertHanded a ws ds ≡ insertHanded b ws′ ds′ → (a ≡ b) × (ws ≡ ws′) × (ds ≡ ds′)
-handed-one a b ws ds ws′ ds′ h =
-    let n = one entryIn unentry entry-back (a .entry) (b .entry) (ap (λ (y : Handed). y .entry) h) in
-    let e = ap (λ (y : Handed). y .left) h in
-    let s = one entryInsertSaid uninsert insert-back (a .said) (b .said) (ap (λ (y : Left). y .done .said) e) in
-    let t = same-table _ _ (a .table) (b .table) ws ds ws′ ds′ e in
-    (λ i. record { said = s i; entry = n i; table = t i }, ap (λ (y : Left). y .done .words) e, ap (λ (y : Left). y .done .deltas) e)
-
-pub insert-one-outcome : (words deltas : List ℕ) (table : Table) (entry : Entry) (value : ℕ) (r₁ r₂ : EntryInsertAnswer) (words₁ deltas₁ words₂ deltas₂ : List ℕ)
-    → insertHanded r₁ words₁ deltas₁ ≡ handedBy (insertBy (lent words deltas table) (entryIn entry) value) (entryIn entry) table words deltas
-    → insertHanded r₂ words₂ deltas₂ ≡ handedBy (insertBy (lent words deltas table) (entryIn entry) value) (entryIn entry) table words deltas
-    → (r₁ ≡ r₂) × (words₁ ≡ words₂) × (deltas₁ ≡ deltas₂)
-insert-one-outcome words deltas table entry value r₁ r₂ words₁ deltas₁ words₂ deltas₂ e₁ e₂ = handed-one r₁ r₂ words₁ deltas₁ words₂ deltas₂ (both e₁ e₂)
-
-pub or-insert-one-outcome : (words deltas : List ℕ) (table : Table) (entry : Entry) (value : ℕ) (r₁ r₂ : EntryInsertAnswer) (words₁ deltas₁ words₂ deltas₂ : List ℕ)
-    → insertHanded r₁ words₁ deltas₁ ≡ handedBy (orInsertBy (lent words deltas table) (entryIn entry) value) (entryIn entry) table words deltas
-    → insertHanded r₂ words₂ deltas₂ ≡ handedBy (orInsertBy (lent words deltas table) (entryIn entry) value) (entryIn entry) table words deltas
-    → (r₁ ≡ r₂) × (words₁ ≡ words₂) × (deltas₁ ≡ deltas₂)
-or-insert-one-outcome words deltas table entry value r₁ r₂ words₁ deltas₁ words₂ deltas₂ e₁ e₂ = handed-one r₁ r₂ words₁ deltas₁ words₂ deltas₂ (both e₁ e₂)
-
-pub insert-entry-one-outcome : (words deltas : List ℕ) (table : Table) (entry : Entry) (value : ℕ) (r₁ r₂ : EntryInsertAnswer) (words₁ deltas₁ words₂ deltas₂ : List ℕ)
-    → insertHanded r₁ words₁ deltas₁ ≡ handedBy (insertEntryBy (lent words deltas table) (entryIn entry) value) (entryIn entry) table words deltas
-    → insertHanded r₂ words₂ deltas₂ ≡ handedBy (insertEntryBy (lent words deltas table) (entryIn entry) value) (entryIn entry) table words deltas
-    → (r₁ ≡ r₂) × (words₁ ≡ words₂) × (deltas₁ ≡ deltas₂)
-insert-entry-one-outcome words deltas table entry value r₁ r₂ words₁ deltas₁ words₂ deltas₂ e₁ e₂ = handed-one r₁ r₂ words₁ deltas₁ words₂ deltas₂ (both e₁ e₂)

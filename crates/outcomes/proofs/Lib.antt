@@ -15,3 +15,4 @@ pub mod Halves
 pub mod Growth
 pub mod Hashiter
 pub mod Hashentry
+pub mod Entryinsert

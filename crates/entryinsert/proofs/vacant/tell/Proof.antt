@@ -1,10 +1,10 @@
--- `entries::vacant::tell` meets its contract. Assumes nothing.
+-- `entryinsert::vacant::tell` meets its contract. Assumes nothing.
 use borrow.Author.Needs.{needs}
 use mathlib.Core.Path.{sym, ap}
 use Rattle.cells.specs.Workers.{insertSaid, placeBy}
 use Rattle.cells.specs.declared.insert.InsertSaid.{InsertSaid}
-use Rattle.entries.proofs.vacant.tell.Statement.{statement}
-use Rattle.entries.proofs.vacant.tell.Tie as tie
+use Rattle.entryinsert.proofs.vacant.tell.Statement.{statement}
+use Rattle.entryinsert.proofs.vacant.tell.Tie as tie
 
 enum-told : tie.Need-enum-told
 enum-told c = search needs

@@ -1,11 +1,11 @@
--- `entries::vacant::insert_after` meets its contract. Assumes nothing.
+-- `entryinsert::vacant::insert_after` meets its contract. Assumes nothing.
 use borrow.Author.Needs.{needs}
 use Rattle.steps.proofs.Sizes.{size-greatest}
 use Rattle.steps.proofs.Branches.{stored-home}
 use Rattle.cells.proofs.Shapes.{in-words, taken-there}
 use Rattle.cells.proofs.Placing.{inserted-as}
-use Rattle.entries.proofs.vacant.insert_after.Statement.{statement}
-use Rattle.entries.proofs.vacant.insert_after.Tie as tie
+use Rattle.entryinsert.proofs.vacant.insert_after.Statement.{statement}
+use Rattle.entryinsert.proofs.vacant.insert_after.Tie as tie
 
 cell-of-requires : tie.Need-cell-of-requires
 cell-of-requires c κs = search needs

@@ -1,9 +1,9 @@
--- `entries::vacant::put` meets its contract. Assumes nothing.
+-- `entryinsert::vacant::put` meets its contract. Assumes nothing.
 use borrow.Author.Needs.{needs}
 use mathlib.Core.Path.{sym, _∙_}
-use Rattle.entries.proofs.Placing.{put-stale, put-inserted}
-use Rattle.entries.proofs.vacant.put.Statement.{statement}
-use Rattle.entries.proofs.vacant.put.Tie as tie
+use Rattle.entryinsert.proofs.Placing.{put-stale, put-inserted}
+use Rattle.entryinsert.proofs.vacant.put.Statement.{statement}
+use Rattle.entryinsert.proofs.vacant.put.Tie as tie
 
 walk-to-requires : tie.Need-walk-to-requires
 walk-to-requires c κs = search needs

@@ -1,15 +1,16 @@
--- `entries::giving::give_vacant` meets its contract. Assumes nothing.
+-- `entryinsert::giving::give_vacant` meets its contract. Assumes nothing.
 use borrow.Author.Needs.{needs}
 use mathlib.Core.Path.{sym, ap, _∙_}
 use Prim.Native.Nat.{ℕ}
 use Rattle.rules.specs.Entries.{inserting}
 use Rattle.cells.specs.Layout.{null, sizeIn, view, valueIn, countsOf, lent}
-use Rattle.entries.specs.Workers.{putIn}
+use Rattle.entryinsert.specs.Workers.{putIn}
 use Rattle.entries.specs.Answers.{placeOf, entryIn}
-use Rattle.entries.proofs.Handing.{as-handed, handed-left, handed-put, use-known}
-use Rattle.entries.proofs.Using.{use-zero, use-stale, stale-other, use-put}
-use Rattle.entries.proofs.giving.give_vacant.Statement.{statement}
-use Rattle.entries.proofs.giving.give_vacant.Tie as tie
+use Rattle.entryinsert.proofs.Handing.{as-handed, handed-left, handed-put, use-known}
+use Rattle.entries.proofs.Using.{use-zero, use-stale, stale-other}
+use Rattle.entryinsert.proofs.Putting.{use-put}
+use Rattle.entryinsert.proofs.giving.give_vacant.Statement.{statement}
+use Rattle.entryinsert.proofs.giving.give_vacant.Tie as tie
 
 hash-of-requires : tie.Need-hash-of-requires
 hash-of-requires c κs = search needs

@@ -1,16 +1,16 @@
--- `entries::giving::give_occupied` meets its contract. Assumes nothing.
+-- `entryinsert::giving::give_occupied` meets its contract. Assumes nothing.
 use borrow.Author.Needs.{needs}
 use mathlib.Core.Path.{ap, _∙_}
 use Rattle.rules.specs.Entries.{usedAt}
 use Rattle.steps.proofs.Branches.{settle-replaced}
 use Rattle.cells.specs.Layout.{lent}
-use Rattle.entries.specs.declared.giving.Doing.{Doing}
-use Rattle.entries.specs.Workers.{doing}
+use Rattle.entryinsert.specs.declared.giving.Doing.{Doing}
+use Rattle.entryinsert.specs.Workers.{doing}
 use Rattle.entries.specs.Answers.{placeOf, entryIn}
-use Rattle.entries.proofs.Handing.{handed-left, handed-stored, doing-offers, use-known, occupied-not-vacant}
+use Rattle.entryinsert.proofs.Handing.{handed-left, handed-stored, doing-offers, use-known, occupied-not-vacant}
 use Rattle.entries.proofs.Using.{held-in, looked-at, on-held, on-zero, on-stale}
-use Rattle.entries.proofs.giving.give_occupied.Statement.{statement}
-use Rattle.entries.proofs.giving.give_occupied.Tie as tie
+use Rattle.entryinsert.proofs.giving.give_occupied.Statement.{statement}
+use Rattle.entryinsert.proofs.giving.give_occupied.Tie as tie
 
 look-requires : tie.Need-look-requires
 look-requires c κs =

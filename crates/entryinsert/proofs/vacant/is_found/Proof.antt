@@ -1,11 +1,11 @@
--- `entries::vacant::is_found` meets its contract. Assumes nothing.
+-- `entryinsert::vacant::is_found` meets its contract. Assumes nothing.
 use borrow.Author.Needs.{needs}
 use mathlib.Core.Path.{ap}
 use Rattle.cells.specs.Workers.{stopOf}
 use Rattle.cells.proofs.Shapes.{words-hold, cell-lt}
-use Rattle.entries.proofs.Placing.{found-met}
-use Rattle.entries.proofs.vacant.is_found.Statement.{statement}
-use Rattle.entries.proofs.vacant.is_found.Tie as tie
+use Rattle.entryinsert.proofs.Placing.{found-met}
+use Rattle.entryinsert.proofs.vacant.is_found.Statement.{statement}
+use Rattle.entryinsert.proofs.vacant.is_found.Tie as tie
 
 enum-known-stop : tie.Need-enum-known-stop
 enum-known-stop c = search needs

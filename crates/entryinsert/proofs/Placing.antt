@@ -13,7 +13,7 @@ use Rattle.steps.specs.Steps.{Ends}
 use Rattle.steps.proofs.Branches.{find-ends}
 use Rattle.cells.specs.Layout.{Done, doneBy}
 use Rattle.cells.specs.Workers.{CellOf, placeBy, placeAfter}
-use Rattle.entries.specs.Workers.{putIn, placedBy}
+use Rattle.entryinsert.specs.Workers.{putIn, placedBy}
 
 -- ---- whether a value is found
 

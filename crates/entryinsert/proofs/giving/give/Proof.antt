@@ -1,14 +1,15 @@
--- `entries::giving::give` meets its contract. Assumes nothing.
+-- `entryinsert::giving::give` meets its contract. Assumes nothing.
 use borrow.Author.Needs.{needs}
 use mathlib.Core.Path.{sym, ap, _∙_}
 use Rattle.rules.specs.Entries.{Place, inserting, onCase, useEntry}
 use Rattle.cells.specs.Layout.{lent, offeredBy}
-use Rattle.entries.specs.Workers.{doing}
-use Rattle.entries.specs.Answers.{placeOf, entryIn, handedBy}
-use Rattle.entries.proofs.Handing.{as-handed, handed-left, case-offers}
+use Rattle.entryinsert.specs.Workers.{doing}
+use Rattle.entries.specs.Answers.{placeOf, entryIn}
+use Rattle.entryinsert.specs.Answers.{handedBy}
+use Rattle.entryinsert.proofs.Handing.{as-handed, handed-left, case-offers}
 use Rattle.entries.proofs.Using.{use-fails, use-passes, use-shape, use-offered}
-use Rattle.entries.proofs.giving.give.Statement.{statement}
-use Rattle.entries.proofs.giving.give.Tie as tie
+use Rattle.entryinsert.proofs.giving.give.Statement.{statement}
+use Rattle.entryinsert.proofs.giving.give.Tie as tie
 
 passes-at-requires : tie.Need-passes-at-requires
 passes-at-requires c κs = search needs

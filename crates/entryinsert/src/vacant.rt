@@ -10,10 +10,9 @@ ghost use Rattle.steps.specs.Steps.{Ends};
 ghost use Rattle.cells.specs.Layout.{Shaped, null, view, valueIn, countsOf};
 ghost use Rattle.cells.specs.Workers.{stopOf, insertSaid, placeBy, InsertedBy};
 ghost use Rattle.rules.specs.Entries.{isFound};
-ghost use Rattle.entries.specs.Answers.{placeOf, entryInsertSaid};
-ghost use Rattle.entries.specs.Workers.{putIn, placedBy, putDone};
-use crate::record::CellAt;
-use crate::record::Place;
+ghost use Rattle.entries.specs.Answers.{placeOf};
+ghost use Rattle.entryinsert.specs.Answers.{entryInsertSaid};
+ghost use Rattle.entryinsert.specs.Workers.{putIn, placedBy, putDone};
 use cells::Table;
 use cells::cell_of;
 use cells::insert::FullAt;
@@ -25,6 +24,8 @@ use cells::slices::hash_at;
 use cells::slices::value_at;
 use cells::walk::Stop;
 use cells::walk::walk_to;
+use entries::record::CellAt;
+use entries::record::Place;
 
 // What a call that inserts says. Found: the value that or_insert kept. Replaced: by insert_entry.
 pub enum EntryInsertSaid {

@@ -3,19 +3,20 @@ ghost use mathlib.Core.Path.{_≡_};
 ghost use Rattle.rules.specs.Cells.{offered};
 ghost use Rattle.cells.specs.Layout.{null, lent};
 ghost use Rattle.rules.specs.Entries.{occupied, vacant, useShape, onCase, inserting, useEntry};
-ghost use Rattle.entries.specs.Answers.{placeOf, entryIn, insertHanded, handedBy};
-ghost use Rattle.entries.specs.Workers.{doing};
-use crate::looking::Looked;
-use crate::looking::look;
-use crate::looking::passes_at;
-use crate::record::Entry;
-use crate::record::Place;
+ghost use Rattle.entries.specs.Answers.{placeOf, entryIn};
+ghost use Rattle.entryinsert.specs.Answers.{insertHanded, handedBy};
+ghost use Rattle.entryinsert.specs.Workers.{doing};
 use crate::vacant::EntryInsertSaid;
 use crate::vacant::put;
 use cells::Offered;
 use cells::Table;
 use cells::offer;
 use cells::slices::store_value;
+use entries::looking::Looked;
+use entries::looking::look;
+use entries::looking::passes_at;
+use entries::record::Entry;
+use entries::record::Place;
 use hashers::hash_of;
 
 // What a call that inserts answers, with the entry and the record afterwards.

@@ -1,12 +1,13 @@
--- `hashentry::inserting::insert` meets its contract. Assumes nothing.
+-- `entryinsert::insert` meets its contract. Assumes nothing.
 use borrow.Author.Needs.{needs}
 use mathlib.Core.Path.{ap, _∙_}
 use Rattle.rules.specs.Entries.{Action, inserting, useEntry}
 use Rattle.cells.specs.Layout.{lent}
-use Rattle.entries.specs.Answers.{placeOf, entryIn, handedBy}
-use Rattle.entries.proofs.Handing.{case-same}
-use Rattle.hashentry.proofs.inserting.insert.Statement.{statement}
-use Rattle.hashentry.proofs.inserting.insert.Tie as tie
+use Rattle.entries.specs.Answers.{placeOf, entryIn}
+use Rattle.entryinsert.specs.Answers.{handedBy}
+use Rattle.entryinsert.proofs.Handing.{case-same}
+use Rattle.entryinsert.proofs.insert.Statement.{statement}
+use Rattle.entryinsert.proofs.insert.Tie as tie
 
 give-requires : tie.Need-give-requires
 give-requires c κs = search needs

@@ -12,12 +12,12 @@ use Rattle.rules.specs.Entries.{Place, occupied, vacant, Entry, Action, inserti
 use Rattle.cells.specs.declared.Table.{Table}
 use Rattle.cells.specs.Layout.{Shaped, null, isShaped, sizeIn, lent, Done, doneBy}
 use Rattle.cells.specs.Workers.{placeAfter}
-use Rattle.entries.specs.Answers.{Handed, handedBy, insertHanded}
-use Rattle.entries.specs.Workers.{doing, placedBy}
-use Rattle.entries.specs.declared.giving.EntryInsertAnswer.{EntryInsertAnswer}
-use Rattle.entries.specs.declared.giving.Doing.{Doing}
-use Rattle.entries.specs.declared.giving.Doing.the-variants.{Refuse, Keep, Replace}
+use Rattle.entryinsert.specs.Answers.{Handed, handedBy, insertHanded}
+use Rattle.entryinsert.specs.Workers.{doing, placedBy}
+use Rattle.entryinsert.specs.declared.giving.EntryInsertAnswer.{EntryInsertAnswer}
+use Rattle.entryinsert.specs.declared.giving.Doing.{Doing}
+use Rattle.entryinsert.specs.declared.giving.Doing.the-variants.{Refuse, Keep, Replace}
 use Rattle.entries.proofs.Using.{use-ready}
 
 module _ (o : Outcome) (e : Entry) (t : Table) (ws ds : List ℕ) where
   -- nothing was changed: the entry stays

@@ -1,13 +1,19 @@
-// The calls that insert: a Vacant entry's, and those that serve either case.
+// The calls of an entry that insert: a Vacant entry's, and those that serve either case. Every call is defined for any slices, any
+// record and any entry.
+mod giving;
+mod vacant;
+
+pub use giving::EntryInsertAnswer;
+pub use vacant::EntryInsertSaid;
 ghost use mathlib.Core.Path.{_≡_};
 ghost use Rattle.rules.specs.Entries.{insertBy, orInsertBy, insertEntryBy};
 ghost use Rattle.cells.specs.Layout.{lent};
-ghost use Rattle.entries.specs.Answers.{entryIn, insertHanded, handedBy};
+ghost use Rattle.entries.specs.Answers.{entryIn};
+ghost use Rattle.entryinsert.specs.Answers.{insertHanded, handedBy};
 use cells::Table;
-use entries::giving::Doing;
-use entries::giving::EntryInsertAnswer;
-use entries::giving::give;
 use entries::record::Entry;
+use giving::Doing;
+use giving::give;
 
 // Inserts a value under the key of a Vacant entry, at fixed size. Refusals: 1, 3, 2, 7, then 4 or 5 from the insert's walk.
 pub fn insert(
