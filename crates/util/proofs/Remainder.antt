@@ -10,11 +10,3 @@ mod-before-mul x n p =
   where
     regroup : (q r : ℕ) → q * p * n + r * p ≡ (q * n + r) * p
     regroup q r = simp (add-mul, mul-assoc, mul-comm, mul-left-comm) refl
-
--- what is multiplied by P counts, past P * P, by its remainder of P alone
-pub mod-below-square : (x P : ℕ) → (x % P * P) % (P * P) ≡ (x * P) % (P * P)
-mod-below-square x P =
-    sym (mul-add-mod-self-right (x / P) (P * P) (x % P * P)) ∙ ap (λ (t : ℕ). t % (P * P)) (regroup (x / P) (x % P) ∙ ap (λ (t : ℕ). t * P) (div-add-mod' x P))
-  where
-    regroup : (q r : ℕ) → q * (P * P) + r * P ≡ (q * P + r) * P
-    regroup q r = simp (add-mul, mul-assoc) refl

@@ -5,17 +5,18 @@ ghost use lib.ListN.{length};
 ghost use Rattle.util.specs.Bytes.{number, load, said};
 ghost use Rattle.util.specs.Power.{roundUp};
 
-// a * b modulo 2^64, from 32-bit digits. The product of the two high digits is a multiple of 2^64.
+// a * b modulo 2^64, from 32-bit digits: low_a times b, and high_a times low_b. The product of the two high digits is a multiple of
+// 2^64. Of the crossed products the low digit alone counts; the first is cut to it, so that no sum here reaches 2^64.
 pub fn wrapping_mul(a: u64, b: u64) -> u64
     ensures { λ r. ⌜ r ≡ (a * b) % 2 ^ 64 ⌝ }
 {
-    let low_a = a % 0x1_0000_0000;
-    let high_a = a / 0x1_0000_0000;
-    let low_b = b % 0x1_0000_0000;
-    let high_b = b / 0x1_0000_0000;
-    let crossed = std::num::wrapping_add_u64(high_a * low_b, low_a * high_b);
-    let upper = (crossed % 0x1_0000_0000) * 0x1_0000_0000;
-    std::num::wrapping_add_u64(upper, low_a * low_b)
+    let high_a = a >> 32;
+    let low_a = a & 0xffff_ffff;
+    let high_b = b >> 32;
+    let low_b = b & 0xffff_ffff;
+    let low = low_a * low_b;
+    let crossed = (low_a * high_b + (low >> 32)) & 0xffff_ffff;
+    ((high_a * low_b + crossed) << 32) | (low & 0xffff_ffff)
 }
 
 // The least power of two that is at least x; 0 for 0 and for what is above 2^63.

@@ -1,41 +1,26 @@
 -- `util::wrapping_mul` meets its contract. Assumes nothing.
 use borrow.Author.Needs.{needs}
-use mathlib.Core.Path.{_∙_}
-use Rattle.util.proofs.Digits.{digits-fit, low-word}
+use Rattle.util.proofs.Digits.{digits, mask, low-word}
 use Rattle.util.proofs.wrapping_mul.Statement.{statement}
 use Rattle.util.proofs.wrapping_mul.Tie as tie
 
-mul-wrapping-add-u64 : tie.Need-mul-wrapping-add-u64
-mul-wrapping-add-u64 c = digits-fit (search needs) (search needs)
+mul-low : tie.Need-mul-low
+mul-low c = search (needs, digits)
 
-mul-wrapping-add-u64-2 : tie.Need-mul-wrapping-add-u64-2
-mul-wrapping-add-u64-2 c = digits-fit (search needs) (search needs)
+mul-crossed : tie.Need-mul-crossed
+mul-crossed c = search (needs, digits)
 
-wrapping-add-u64-requires : tie.Need-wrapping-add-u64-requires
-wrapping-add-u64-requires c κs = search needs
+add-crossed : tie.Need-add-crossed
+add-crossed c = search (needs, digits)
 
-mul-upper : tie.Need-mul-upper
-mul-upper c = search needs
+mul-result : tie.Need-mul-result
+mul-result c = search (needs, digits)
 
-mul-wrapping-add-u64-3 : tie.Need-mul-wrapping-add-u64-3
-mul-wrapping-add-u64-3 c = digits-fit (search needs) (search needs)
-
-wrapping-add-u64-requires-2 : tie.Need-wrapping-add-u64-requires-2
-wrapping-add-u64-requires-2 c κs = search needs
+add-result : tie.Need-add-result
+add-result c = search (needs, digits)
 
 returns : tie.Need-returns
-returns c =
-    c .wrapping-add-u642 .ensures
-    ∙ low-word (c .before .before .args .a) (c .before .before .args .b) (c .before .wrapping-add-u64 .result) (c .before .wrapping-add-u64 .ensures)
+returns c = search (mask, low-word)
 
 pub wrapping-mul-spec : {M : Type 1} → statement M
-wrapping-mul-spec =
-    tie.close
-    (tie.spec
-    mul-wrapping-add-u64
-    mul-wrapping-add-u64-2
-    wrapping-add-u64-requires
-    mul-upper
-    mul-wrapping-add-u64-3
-    wrapping-add-u64-requires-2
-    returns)
+wrapping-mul-spec = tie.close (tie.spec mul-low mul-crossed add-crossed mul-result add-result returns)
