@@ -63,8 +63,8 @@ module _ (lws lds uws uds : List ℕ) (g : Growing) (k v : ℕ) where
             cells_size = p.0.size;
             words = p.0.lower_words_lem;
             deltas = p.0.lower_deltas_lem;
-            spare_words_lem = p.0.upper_words_lem;
-            spare_deltas_lem = p.0.upper_deltas_lem;
+            spare_words_length = p.0.upper_words_lem;
+            spare_deltas_length = p.0.upper_deltas_lem;
           }
       go Upper =
           record {
@@ -73,8 +73,8 @@ module _ (lws lds uws uds : List ℕ) (g : Growing) (k v : ℕ) where
             cells_size = p.0.size;
             words = p.0.upper_words_lem;
             deltas = p.0.upper_deltas_lem;
-            spare_words_lem = p.0.lower_words_lem;
-            spare_deltas_lem = p.0.lower_deltas_lem;
+            spare_words_length = p.0.lower_words_lem;
+            spare_deltas_length = p.0.lower_deltas_lem;
           }
 
   -- a refusal leaves all

@@ -46,8 +46,8 @@ pub record Halved (ws ds sws sds : List ℕ) (cells S : ℕ) : Type 0 where
   pub cells_size : is_size cells ≡ true
   pub words : length ws ≡ 3 * cells
   pub deltas : length ds ≡ 2 * cells
-  pub spare_words_lem : length sws ≡ 3 * cells
-  pub spare_deltas_lem : length sds ≡ 2 * cells
+  pub spare_words_length : length sws ≡ 3 * cells
+  pub spare_deltas_length : length sds ≡ 2 * cells
 
 -- ---- the tries, with the spare half
 

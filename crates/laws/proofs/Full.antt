@@ -116,7 +116,7 @@ module _ (l : Lent) (k v : ℕ) where
           → o ≡ insert_stored l.params.S l.params.null l.cells l.value l.counts (l.params.hash_of k) k v
       go o (ways.by1 a e) u = absurd (u.shape (ap (λ (o : Outcome). o.said) e))
       go o (ways.by3 a b e) u = absurd (u.null (ap (λ (o : Outcome). o.said) e))
-      go o (ways.by2 a b d e) u = absurd (u.zero_hash_lem (ap (λ (o : Outcome). o.said) e))
+      go o (ways.by2 a b d e) u = absurd (u.hash_not_zero (ap (λ (o : Outcome). o.said) e))
       go o (ways.past a b d e) u = e
 
   module _ (u : Unrefused (insert l k v).said) where

@@ -33,7 +33,7 @@ pub record IsFull (s : Said) : Type 0 where
 -- 1, 2, 3 and 5 don't refuse
 pub record Unrefused (s : Said) : Type 0 where
   pub shape : s ≢ refused 1 []
-  pub zero_hash_lem : s ≢ refused 2 []
+  pub hash_not_zero : s ≢ refused 2 []
   pub null : s ≢ refused 3 []
   pub broken : s ≢ refused 5 []
 

@@ -8,10 +8,10 @@ use Rattle.answers.proofs.block.Statement.{statement}
 use Rattle.answers.proofs.block.Tie as tie
 
 abbrev invariant-loop : tie.invariant-loop
-invariant-loop words₀ deltas₀ spare-words₀ spare-deltas₀ input n output₀ now₀ i₀ i-end words deltas spare_words_lem spare_deltas_lem output now i = (length words ≡ length words₀) × (length deltas ≡ length deltas₀) × (length spare_words_lem ≡ length spare-words₀) × (length spare_deltas_lem ≡ length spare-deltas₀)
+invariant-loop words₀ deltas₀ spare-words₀ spare-deltas₀ input n output₀ now₀ i₀ i-end words deltas spare_words_length spare_deltas_length output now i = (length words ≡ length words₀) × (length deltas ≡ length deltas₀) × (length spare_words_length ≡ length spare-words₀) × (length spare_deltas_length ≡ length spare-deltas₀)
 
 abbrev decreases-loop : tie.decreases-loop
-decreases-loop words₀ deltas₀ spare-words₀ spare-deltas₀ input n output₀ now₀ i₀ i-end words deltas spare_words_lem spare_deltas_lem output now i = i-end - i
+decreases-loop words₀ deltas₀ spare-words₀ spare-deltas₀ input n output₀ now₀ i₀ i-end words deltas spare_words_length spare_deltas_length output now i = i-end - i
 
 loop-holds : tie.Need-loop-init invariant-loop decreases-loop
 loop-holds c = search rules

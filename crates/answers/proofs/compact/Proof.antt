@@ -7,10 +7,10 @@ use Rattle.answers.proofs.compact.Statement.{statement}
 use Rattle.answers.proofs.compact.Tie as tie
 
 abbrev invariant-loop : tie.invariant-loop
-invariant-loop words₀ deltas₀ spare-words₀ spare-deltas₀ input₀ first state₀ n₀ turns₀ words deltas spare_words_lem spare_deltas_lem input state n turns = (length words ≡ length words₀) × (length deltas ≡ length deltas₀) × (length spare_words_lem ≡ length spare-words₀) × (length spare_deltas_lem ≡ length spare-deltas₀) × (length input ≡ length input₀)
+invariant-loop words₀ deltas₀ spare-words₀ spare-deltas₀ input₀ first state₀ n₀ turns₀ words deltas spare_words_length spare_deltas_length input state n turns = (length words ≡ length words₀) × (length deltas ≡ length deltas₀) × (length spare_words_length ≡ length spare-words₀) × (length spare_deltas_length ≡ length spare-deltas₀) × (length input ≡ length input₀)
 
 abbrev decreases-loop : tie.decreases-loop
-decreases-loop words₀ deltas₀ spare-words₀ spare-deltas₀ input₀ first state₀ n₀ turns₀ words deltas spare_words_lem spare_deltas_lem input state n turns = turns
+decreases-loop words₀ deltas₀ spare-words₀ spare-deltas₀ input₀ first state₀ n₀ turns₀ words deltas spare_words_length spare_deltas_length input state n turns = turns
 
 start-requires : tie.Need-start-requires invariant-loop decreases-loop
 start-requires c κs = search rules

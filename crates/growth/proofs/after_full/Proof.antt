@@ -10,10 +10,10 @@ sample-requires : tie.Need-sample-requires
 sample-requires c κs = search rules
 
 first-size-requires : tie.Need-first-size-requires
-first-size-requires c κs = (c.before.before.before.before.before.before.requires.size, sample_fits c.before.before.before.before.before.before.args.cells c.before.before.before.before.before.before.args.size c.before.before.before.before.before.before.args.live 0 c.before.before.before.before.before.before.args.position c.before.before.before.before.before.before.args.words.now c.before.before.before.before.before.before.args.deltas.now c.before.before.before.before.before.before.args.spare_words_lem.now c.before.before.before.before.before.before.args.spare_deltas_lem.now c.sample.result _ refl c.sample.ensures)
+first-size-requires c κs = (c.before.before.before.before.before.before.requires.size, sample_fits c.before.before.before.before.before.before.args.cells c.before.before.before.before.before.before.args.size c.before.before.before.before.before.before.args.live 0 c.before.before.before.before.before.before.args.position c.before.before.before.before.before.before.args.words.now c.before.before.before.before.before.before.args.deltas.now c.before.before.before.before.before.before.args.spare_words.now c.before.before.before.before.before.before.args.spare_deltas.now c.sample.result _ refl c.sample.ensures)
 
 try-sizes-requires : tie.Need-try-sizes-requires
-try-sizes-requires c κs = (record { source = omega (arith, c.before.before.before.before.before.before.before.before.before.before.requires.words, c.before.before.before.before.before.before.before.before.before.before.requires.most); size = c.before.before.before.before.before.before.before.before.before.before.requires.cells_size; words = c.before.before.before.before.before.before.before.before.before.before.requires.spare_words_lem; deltas = c.before.before.before.before.before.before.before.before.before.before.requires.spare_deltas_lem }, first_power c.before.before.before.before.before.before.before.before.before.before.args.cells c.before.before.before.before.before.before.before.before.before.before.args.size c.before.before.before.before.before.before.before.before.before.before.args.live 0 c.before.before.before.before.before.before.before.before.before.before.args.position c.before.before.before.before.before.before.before.before.before.before.args.words.now c.before.before.before.before.before.before.before.before.before.before.args.deltas.now c.before.before.before.before.before.before.before.before.before.before.args.spare_words_lem.now c.before.before.before.before.before.before.before.before.before.before.args.spare_deltas_lem.now c.before.before.before.before.sample.result c.before.before.before.first-size.result c.before.before.before.first-size.ensures c.before.before.before.before.sample.ensures c.before.before.before.before.before.before.before.before.before.before.requires.size)
+try-sizes-requires c κs = (record { source = omega (arith, c.before.before.before.before.before.before.before.before.before.before.requires.words, c.before.before.before.before.before.before.before.before.before.before.requires.most); size = c.before.before.before.before.before.before.before.before.before.before.requires.cells_size; words = c.before.before.before.before.before.before.before.before.before.before.requires.spare_words_length; deltas = c.before.before.before.before.before.before.before.before.before.before.requires.spare_deltas_length }, first_power c.before.before.before.before.before.before.before.before.before.before.args.cells c.before.before.before.before.before.before.before.before.before.before.args.size c.before.before.before.before.before.before.before.before.before.before.args.live 0 c.before.before.before.before.before.before.before.before.before.before.args.position c.before.before.before.before.before.before.before.before.before.before.args.words.now c.before.before.before.before.before.before.before.before.before.before.args.deltas.now c.before.before.before.before.before.before.before.before.before.before.args.spare_words.now c.before.before.before.before.before.before.before.before.before.before.args.spare_deltas.now c.before.before.before.before.sample.result c.before.before.before.first-size.result c.before.before.before.first-size.ensures c.before.before.before.before.sample.ensures c.before.before.before.before.before.before.before.before.before.before.requires.size)
 
 enum-known-tried : tie.Need-enum-known-tried
 enum-known-tried c = search rules
@@ -40,7 +40,7 @@ same-length-4 : tie.Need-same-length-4
 same-length-4 c = search rules
 
 returns : tie.Need-returns
-returns c = full_to c.before.before.before.before.before.before.before.before.before.before.before.before.before.before.before.before.before.before.before.before.before.before.before.before.before.args.cells c.before.before.before.before.before.before.before.before.before.before.before.before.before.before.before.before.before.before.before.before.before.before.before.before.before.args.size c.before.before.before.before.before.before.before.before.before.before.before.before.before.before.before.before.before.before.before.before.before.before.before.before.before.args.live c.before.before.before.before.before.before.before.before.before.before.before.before.before.before.before.before.before.before.before.before.before.before.before.before.before.args.looked c.before.before.before.before.before.before.before.before.before.before.before.before.before.before.before.before.before.before.before.before.before.before.before.before.before.args.position c.before.before.before.before.before.before.before.before.before.before.before.before.before.before.before.before.before.before.before.before.before.before.before.before.before.args.words.now c.before.before.before.before.before.before.before.before.before.before.before.before.before.before.before.before.before.before.before.before.before.before.before.before.before.args.deltas.now c.before.before.before.before.before.before.before.before.before.before.before.before.before.before.before.before.before.before.before.before.before.before.before.before.before.args.spare_words_lem.now c.before.before.before.before.before.before.before.before.before.before.before.before.before.before.before.before.before.before.before.before.before.before.before.before.before.args.spare_deltas_lem.now c.before.before.before.before.before.before.before.before.before.before.before.before.before.before.before.before.before.before.before.sample.result c.before.before.before.before.before.before.before.before.before.before.before.before.before.before.before.before.before.before.first-size.result c.before.before.before.before.before.before.before.before.before.before.before.before.before.before.before.before.before.before.first-size.ensures c.before.before.before.before.before.before.before.before.before.before.before.before.before.before.before.before.before.before.before.sample.ensures c.before.before.before.before.before.before.before.before.before.before.before.before.before.before.try-sizes.result _ _ c.before.before.before.before.before.before.before.before.before.before.before.before.before.before.try-sizes.ensures c.before.before.before.before.before.before.before.before.tried.given.0.0 c.before.before.before.before.before.before.before.before.tried.given.1 _ _ c.before.before.before.before.Clear-both.ensures.0 c.before.before.before.before.Clear-both.ensures.1
+returns c = full_to c.before.before.before.before.before.before.before.before.before.before.before.before.before.before.before.before.before.before.before.before.before.before.before.before.before.args.cells c.before.before.before.before.before.before.before.before.before.before.before.before.before.before.before.before.before.before.before.before.before.before.before.before.before.args.size c.before.before.before.before.before.before.before.before.before.before.before.before.before.before.before.before.before.before.before.before.before.before.before.before.before.args.live c.before.before.before.before.before.before.before.before.before.before.before.before.before.before.before.before.before.before.before.before.before.before.before.before.before.args.looked c.before.before.before.before.before.before.before.before.before.before.before.before.before.before.before.before.before.before.before.before.before.before.before.before.before.args.position c.before.before.before.before.before.before.before.before.before.before.before.before.before.before.before.before.before.before.before.before.before.before.before.before.before.args.words.now c.before.before.before.before.before.before.before.before.before.before.before.before.before.before.before.before.before.before.before.before.before.before.before.before.before.args.deltas.now c.before.before.before.before.before.before.before.before.before.before.before.before.before.before.before.before.before.before.before.before.before.before.before.before.before.args.spare_words.now c.before.before.before.before.before.before.before.before.before.before.before.before.before.before.before.before.before.before.before.before.before.before.before.before.before.args.spare_deltas.now c.before.before.before.before.before.before.before.before.before.before.before.before.before.before.before.before.before.before.before.sample.result c.before.before.before.before.before.before.before.before.before.before.before.before.before.before.before.before.before.before.first-size.result c.before.before.before.before.before.before.before.before.before.before.before.before.before.before.before.before.before.before.first-size.ensures c.before.before.before.before.before.before.before.before.before.before.before.before.before.before.before.before.before.before.before.sample.ensures c.before.before.before.before.before.before.before.before.before.before.before.before.before.before.try-sizes.result _ _ c.before.before.before.before.before.before.before.before.before.before.before.before.before.before.try-sizes.ensures c.before.before.before.before.before.before.before.before.tried.given.0.0 c.before.before.before.before.before.before.before.before.tried.given.1 _ _ c.before.before.before.before.Clear-both.ensures.0 c.before.before.before.before.Clear-both.ensures.1
 
 same-length-5 : tie.Need-same-length-5
 same-length-5 c = search rules
@@ -52,7 +52,7 @@ same-length-7 : tie.Need-same-length-7
 same-length-7 c = search rules
 
 returns-2 : tie.Need-returns-2
-returns-2 c = full_no_room c.before.before.before.before.before.before.before.before.before.before.before.before.before.before.before.before.before.args.cells c.before.before.before.before.before.before.before.before.before.before.before.before.before.before.before.before.before.args.size c.before.before.before.before.before.before.before.before.before.before.before.before.before.before.before.before.before.args.live c.before.before.before.before.before.before.before.before.before.before.before.before.before.before.before.before.before.args.looked c.before.before.before.before.before.before.before.before.before.before.before.before.before.before.before.before.before.args.position c.before.before.before.before.before.before.before.before.before.before.before.before.before.before.before.before.before.args.words.now c.before.before.before.before.before.before.before.before.before.before.before.before.before.before.before.before.before.args.deltas.now c.before.before.before.before.before.before.before.before.before.before.before.before.before.before.before.before.before.args.spare_words_lem.now c.before.before.before.before.before.before.before.before.before.before.before.before.before.before.before.before.before.args.spare_deltas_lem.now c.before.before.before.before.before.before.before.before.before.before.before.sample.result c.before.before.before.before.before.before.before.before.before.before.first-size.result c.before.before.before.before.before.before.before.before.before.before.first-size.ensures c.before.before.before.before.before.before.before.before.before.before.before.sample.ensures c.before.before.before.before.before.before.try-sizes.result _ _ c.before.before.before.before.before.before.try-sizes.ensures c.enum_told.given.1
+returns-2 c = full_no_room c.before.before.before.before.before.before.before.before.before.before.before.before.before.before.before.before.before.args.cells c.before.before.before.before.before.before.before.before.before.before.before.before.before.before.before.before.before.args.size c.before.before.before.before.before.before.before.before.before.before.before.before.before.before.before.before.before.args.live c.before.before.before.before.before.before.before.before.before.before.before.before.before.before.before.before.before.args.looked c.before.before.before.before.before.before.before.before.before.before.before.before.before.before.before.before.before.args.position c.before.before.before.before.before.before.before.before.before.before.before.before.before.before.before.before.before.args.words.now c.before.before.before.before.before.before.before.before.before.before.before.before.before.before.before.before.before.args.deltas.now c.before.before.before.before.before.before.before.before.before.before.before.before.before.before.before.before.before.args.spare_words.now c.before.before.before.before.before.before.before.before.before.before.before.before.before.before.before.before.before.args.spare_deltas.now c.before.before.before.before.before.before.before.before.before.before.before.sample.result c.before.before.before.before.before.before.before.before.before.before.first-size.result c.before.before.before.before.before.before.before.before.before.before.first-size.ensures c.before.before.before.before.before.before.before.before.before.before.before.sample.ensures c.before.before.before.before.before.before.try-sizes.result _ _ c.before.before.before.before.before.before.try-sizes.ensures c.enum_told.given.1
 
 same-length-8 : tie.Need-same-length-8
 same-length-8 c = search rules
@@ -64,7 +64,7 @@ same-length-10 : tie.Need-same-length-10
 same-length-10 c = search rules
 
 returns-3 : tie.Need-returns-3
-returns-3 c = full_broken c.before.before.before.before.before.before.before.before.before.before.before.before.before.before.before.before.before.args.cells c.before.before.before.before.before.before.before.before.before.before.before.before.before.before.before.before.before.args.size c.before.before.before.before.before.before.before.before.before.before.before.before.before.before.before.before.before.args.live c.before.before.before.before.before.before.before.before.before.before.before.before.before.before.before.before.before.args.looked c.before.before.before.before.before.before.before.before.before.before.before.before.before.before.before.before.before.args.position c.before.before.before.before.before.before.before.before.before.before.before.before.before.before.before.before.before.args.words.now c.before.before.before.before.before.before.before.before.before.before.before.before.before.before.before.before.before.args.deltas.now c.before.before.before.before.before.before.before.before.before.before.before.before.before.before.before.before.before.args.spare_words_lem.now c.before.before.before.before.before.before.before.before.before.before.before.before.before.before.before.before.before.args.spare_deltas_lem.now c.before.before.before.before.before.before.before.before.before.before.before.sample.result c.before.before.before.before.before.before.before.before.before.before.first-size.result c.before.before.before.before.before.before.before.before.before.before.first-size.ensures c.before.before.before.before.before.before.before.before.before.before.before.sample.ensures c.before.before.before.before.before.before.try-sizes.result _ _ c.before.before.before.before.before.before.try-sizes.ensures c.enum-told2.given.1
+returns-3 c = full_broken c.before.before.before.before.before.before.before.before.before.before.before.before.before.before.before.before.before.args.cells c.before.before.before.before.before.before.before.before.before.before.before.before.before.before.before.before.before.args.size c.before.before.before.before.before.before.before.before.before.before.before.before.before.before.before.before.before.args.live c.before.before.before.before.before.before.before.before.before.before.before.before.before.before.before.before.before.args.looked c.before.before.before.before.before.before.before.before.before.before.before.before.before.before.before.before.before.args.position c.before.before.before.before.before.before.before.before.before.before.before.before.before.before.before.before.before.args.words.now c.before.before.before.before.before.before.before.before.before.before.before.before.before.before.before.before.before.args.deltas.now c.before.before.before.before.before.before.before.before.before.before.before.before.before.before.before.before.before.args.spare_words.now c.before.before.before.before.before.before.before.before.before.before.before.before.before.before.before.before.before.args.spare_deltas.now c.before.before.before.before.before.before.before.before.before.before.before.sample.result c.before.before.before.before.before.before.before.before.before.before.first-size.result c.before.before.before.before.before.before.before.before.before.before.first-size.ensures c.before.before.before.before.before.before.before.before.before.before.before.sample.ensures c.before.before.before.before.before.before.try-sizes.result _ _ c.before.before.before.before.before.before.try-sizes.ensures c.enum-told2.given.1
 
 pub after-full-spec : {M : Type 1} → statement M
 after-full-spec =

@@ -36,11 +36,11 @@ same-length-4 c = search rules
 
 returns : tie.Need-returns
 returns c =
-    ap (λ r. grown_by r c.before.before.before.before.before.before.before.before.before.before.before.before.before.before.before.before.before.args.lower_words_lem.now c.before.before.before.before.before.before.before.before.before.before.before.before.before.before.before.before.before.args.lower_deltas_lem.now c.before.before.before.before.before.before.before.before.before.before.before.before.before.before.before.before.before.args.upper_words_lem.now c.before.before.before.before.before.before.before.before.before.before.before.before.before.before.before.before.before.args.upper_deltas_lem.now) c.refused.ensures
-    ∙ refused_2 c.before.before.before.before.before.before.before.before.before.before.before.before.before.before.before.before.before.args.lower_words_lem.now c.before.before.before.before.before.before.before.before.before.before.before.before.before.before.before.before.before.args.lower_deltas_lem.now c.before.before.before.before.before.before.before.before.before.before.before.before.before.before.before.before.before.args.upper_words_lem.now c.before.before.before.before.before.before.before.before.before.before.before.before.before.before.before.before.before.args.upper_deltas_lem.now c.before.before.before.before.before.before.before.before.before.before.before.before.before.before.before.before.before.args.growing c.before.before.before.before.before.before.before.before.before.before.before.before.before.before.before.before.before.args.key c.before.before.before.before.before.before.before.before.before.before.before.before.before.before.before.before.before.args.value (sym c.before.before.before.before.before.before.before.passes.ensures ∙ c.before.before.before.before.before.before.if1.true) (sym c.before.before.before.before.before.offer.ensures ∙ ap offered_by c.before.before.before.enum_told.given.1) c.before.before.hash_of_lem.result c.before.before.hash_of_lem.ensures c.before.if2.true
+    ap (λ r. grown_by r c.before.before.before.before.before.before.before.before.before.before.before.before.before.before.before.before.before.args.lower_words.now c.before.before.before.before.before.before.before.before.before.before.before.before.before.before.before.before.before.args.lower_deltas.now c.before.before.before.before.before.before.before.before.before.before.before.before.before.before.before.before.before.args.upper_words.now c.before.before.before.before.before.before.before.before.before.before.before.before.before.before.before.before.before.args.upper_deltas.now) c.refused.ensures
+    ∙ refused_2 c.before.before.before.before.before.before.before.before.before.before.before.before.before.before.before.before.before.args.lower_words.now c.before.before.before.before.before.before.before.before.before.before.before.before.before.before.before.before.before.args.lower_deltas.now c.before.before.before.before.before.before.before.before.before.before.before.before.before.before.before.before.before.args.upper_words.now c.before.before.before.before.before.before.before.before.before.before.before.before.before.before.before.before.before.args.upper_deltas.now c.before.before.before.before.before.before.before.before.before.before.before.before.before.before.before.before.before.args.growing c.before.before.before.before.before.before.before.before.before.before.before.before.before.before.before.before.before.args.key c.before.before.before.before.before.before.before.before.before.before.before.before.before.before.before.before.before.args.value (sym c.before.before.before.before.before.before.before.passes.ensures ∙ c.before.before.before.before.before.before.if1.true) (sym c.before.before.before.before.before.offer.ensures ∙ ap offered_by c.before.before.before.enum_told.given.1) c.before.before.hash_of_lem.result c.before.before.hash_of_lem.ensures c.before.if2.true
 
 grow-in-requires : tie.Need-grow-in-requires
-grow-in-requires c κs = sided c.before.before.before.before.before.before.before.before.before.before.before.before.before.before.before.before.before.before.before.before.args.lower_words_lem.now c.before.before.before.before.before.before.before.before.before.before.before.before.before.before.before.before.before.before.before.before.args.lower_deltas_lem.now c.before.before.before.before.before.before.before.before.before.before.before.before.before.before.before.before.before.before.before.before.args.upper_words_lem.now c.before.before.before.before.before.before.before.before.before.before.before.before.before.before.before.before.before.before.before.before.args.upper_deltas_lem.now c.before.before.before.before.before.before.before.before.before.before.before.before.before.before.before.before.before.before.before.before.args.growing c.before.before.before.before.before.before.before.before.before.before.before.before.before.before.before.before.before.before.before.before.args.key c.before.before.before.before.before.before.before.before.before.before.before.before.before.before.before.before.before.before.before.before.args.value (sym c.before.before.before.before.before.before.before.before.before.before.passes.ensures ∙ c.before.before.before.before.before.before.before.before.before.if1.true)
+grow-in-requires c κs = sided c.before.before.before.before.before.before.before.before.before.before.before.before.before.before.before.before.before.before.before.before.args.lower_words.now c.before.before.before.before.before.before.before.before.before.before.before.before.before.before.before.before.before.before.before.before.args.lower_deltas.now c.before.before.before.before.before.before.before.before.before.before.before.before.before.before.before.before.before.before.before.before.args.upper_words.now c.before.before.before.before.before.before.before.before.before.before.before.before.before.before.before.before.before.before.before.before.args.upper_deltas.now c.before.before.before.before.before.before.before.before.before.before.before.before.before.before.before.before.before.before.before.before.args.growing c.before.before.before.before.before.before.before.before.before.before.before.before.before.before.before.before.before.before.before.before.args.key c.before.before.before.before.before.before.before.before.before.before.before.before.before.before.before.before.before.before.before.before.args.value (sym c.before.before.before.before.before.before.before.before.before.before.passes.ensures ∙ c.before.before.before.before.before.before.before.before.before.if1.true)
 
 same-length-5 : tie.Need-same-length-5
 same-length-5 c = search rules
@@ -56,7 +56,7 @@ same-length-8 c = search rules
 
 returns-2 : tie.Need-returns-2
 returns-2 c =
-    grows c.before.before.before.before.before.before.before.before.before.before.before.before.before.before.before.before.before.before.before.before.before.before.before.before.before.before.before.before.before.args.lower_words_lem.now c.before.before.before.before.before.before.before.before.before.before.before.before.before.before.before.before.before.before.before.before.before.before.before.before.before.before.before.before.before.args.lower_deltas_lem.now c.before.before.before.before.before.before.before.before.before.before.before.before.before.before.before.before.before.before.before.before.before.before.before.before.before.before.before.before.before.args.upper_words_lem.now c.before.before.before.before.before.before.before.before.before.before.before.before.before.before.before.before.before.before.before.before.before.before.before.before.before.before.before.before.before.args.upper_deltas_lem.now c.before.before.before.before.before.before.before.before.before.before.before.before.before.before.before.before.before.before.before.before.before.before.before.before.before.before.before.before.before.args.growing c.before.before.before.before.before.before.before.before.before.before.before.before.before.before.before.before.before.before.before.before.before.before.before.before.before.before.before.before.before.args.key c.before.before.before.before.before.before.before.before.before.before.before.before.before.before.before.before.before.before.before.before.before.before.before.before.before.before.before.before.before.args.value (sym c.before.before.before.before.before.before.before.before.before.before.before.before.before.before.before.before.before.before.before.passes.ensures ∙ c.before.before.before.before.before.before.before.before.before.before.before.before.before.before.before.before.before.before.if1.true) (sym c.before.before.before.before.before.before.before.before.before.before.before.before.before.before.before.before.before.offer.ensures ∙ ap offered_by c.before.before.before.before.before.before.before.before.before.before.before.before.before.before.before.enum_told.given.1) c.before.before.before.before.before.before.before.before.before.before.before.before.before.before.hash_of_lem.result c.before.before.before.before.before.before.before.before.before.before.before.before.before.before.hash_of_lem.ensures c.before.before.before.before.before.before.before.before.before.before.before.before.before.if2.false _ c.before.before.before.before.before.before.before.before.grow-in.ensures
+    grows c.before.before.before.before.before.before.before.before.before.before.before.before.before.before.before.before.before.before.before.before.before.before.before.before.before.before.before.before.before.args.lower_words.now c.before.before.before.before.before.before.before.before.before.before.before.before.before.before.before.before.before.before.before.before.before.before.before.before.before.before.before.before.before.args.lower_deltas.now c.before.before.before.before.before.before.before.before.before.before.before.before.before.before.before.before.before.before.before.before.before.before.before.before.before.before.before.before.before.args.upper_words.now c.before.before.before.before.before.before.before.before.before.before.before.before.before.before.before.before.before.before.before.before.before.before.before.before.before.before.before.before.before.args.upper_deltas.now c.before.before.before.before.before.before.before.before.before.before.before.before.before.before.before.before.before.before.before.before.before.before.before.before.before.before.before.before.before.args.growing c.before.before.before.before.before.before.before.before.before.before.before.before.before.before.before.before.before.before.before.before.before.before.before.before.before.before.before.before.before.args.key c.before.before.before.before.before.before.before.before.before.before.before.before.before.before.before.before.before.before.before.before.before.before.before.before.before.before.before.before.before.args.value (sym c.before.before.before.before.before.before.before.before.before.before.before.before.before.before.before.before.before.before.before.passes.ensures ∙ c.before.before.before.before.before.before.before.before.before.before.before.before.before.before.before.before.before.before.if1.true) (sym c.before.before.before.before.before.before.before.before.before.before.before.before.before.before.before.before.before.offer.ensures ∙ ap offered_by c.before.before.before.before.before.before.before.before.before.before.before.before.before.before.before.enum_told.given.1) c.before.before.before.before.before.before.before.before.before.before.before.before.before.before.hash_of_lem.result c.before.before.before.before.before.before.before.before.before.before.before.before.before.before.hash_of_lem.ensures c.before.before.before.before.before.before.before.before.before.before.before.before.before.if2.false _ c.before.before.before.before.before.before.before.before.grow-in.ensures
 
 enum-told-2 : tie.Need-enum-told-2
 enum-told-2 c = search rules
@@ -78,8 +78,8 @@ same-length-12 c = search rules
 
 returns-3 : tie.Need-returns-3
 returns-3 c =
-    ap (λ r. grown_by r c.before.before.before.before.before.before.before.before.before.before.before.before.before.before.before.args.lower_words_lem.now c.before.before.before.before.before.before.before.before.before.before.before.before.before.before.before.args.lower_deltas_lem.now c.before.before.before.before.before.before.before.before.before.before.before.before.before.before.before.args.upper_words_lem.now c.before.before.before.before.before.before.before.before.before.before.before.before.before.before.before.args.upper_deltas_lem.now) c.refused2.ensures
-    ∙ refused_3 c.before.before.before.before.before.before.before.before.before.before.before.before.before.before.before.args.lower_words_lem.now c.before.before.before.before.before.before.before.before.before.before.before.before.before.before.before.args.lower_deltas_lem.now c.before.before.before.before.before.before.before.before.before.before.before.before.before.before.before.args.upper_words_lem.now c.before.before.before.before.before.before.before.before.before.before.before.before.before.before.before.args.upper_deltas_lem.now c.before.before.before.before.before.before.before.before.before.before.before.before.before.before.before.args.growing c.before.before.before.before.before.before.before.before.before.before.before.before.before.before.before.args.key c.before.before.before.before.before.before.before.before.before.before.before.before.before.before.before.args.value (sym c.before.before.before.before.before.passes.ensures ∙ c.before.before.before.before.if1.true) (sym c.before.before.before.offer.ensures ∙ ap offered_by c.before.enum-told2.given.1)
+    ap (λ r. grown_by r c.before.before.before.before.before.before.before.before.before.before.before.before.before.before.before.args.lower_words.now c.before.before.before.before.before.before.before.before.before.before.before.before.before.before.before.args.lower_deltas.now c.before.before.before.before.before.before.before.before.before.before.before.before.before.before.before.args.upper_words.now c.before.before.before.before.before.before.before.before.before.before.before.before.before.before.before.args.upper_deltas.now) c.refused2.ensures
+    ∙ refused_3 c.before.before.before.before.before.before.before.before.before.before.before.before.before.before.before.args.lower_words.now c.before.before.before.before.before.before.before.before.before.before.before.before.before.before.before.args.lower_deltas.now c.before.before.before.before.before.before.before.before.before.before.before.before.before.before.before.args.upper_words.now c.before.before.before.before.before.before.before.before.before.before.before.before.before.before.before.args.upper_deltas.now c.before.before.before.before.before.before.before.before.before.before.before.before.before.before.before.args.growing c.before.before.before.before.before.before.before.before.before.before.before.before.before.before.before.args.key c.before.before.before.before.before.before.before.before.before.before.before.before.before.before.before.args.value (sym c.before.before.before.before.before.passes.ensures ∙ c.before.before.before.before.if1.true) (sym c.before.before.before.offer.ensures ∙ ap offered_by c.before.enum-told2.given.1)
 
 refused-requires-3 : tie.Need-refused-requires-3
 refused-requires-3 c κs = search rules
@@ -98,8 +98,8 @@ same-length-16 c = search rules
 
 returns-4 : tie.Need-returns-4
 returns-4 c =
-    ap (λ r. grown_by r c.before.before.before.before.before.before.before.before.before.before.before.before.args.lower_words_lem.now c.before.before.before.before.before.before.before.before.before.before.before.before.args.lower_deltas_lem.now c.before.before.before.before.before.before.before.before.before.before.before.before.args.upper_words_lem.now c.before.before.before.before.before.before.before.before.before.before.before.before.args.upper_deltas_lem.now) c.refused3.ensures
-    ∙ refused_1 c.before.before.before.before.before.before.before.before.before.before.before.before.args.lower_words_lem.now c.before.before.before.before.before.before.before.before.before.before.before.before.args.lower_deltas_lem.now c.before.before.before.before.before.before.before.before.before.before.before.before.args.upper_words_lem.now c.before.before.before.before.before.before.before.before.before.before.before.before.args.upper_deltas_lem.now c.before.before.before.before.before.before.before.before.before.before.before.before.args.growing c.before.before.before.before.before.before.before.before.before.before.before.before.args.key c.before.before.before.before.before.before.before.before.before.before.before.before.args.value (sym c.before.before.passes.ensures ∙ c.before.if1.false)
+    ap (λ r. grown_by r c.before.before.before.before.before.before.before.before.before.before.before.before.args.lower_words.now c.before.before.before.before.before.before.before.before.before.before.before.before.args.lower_deltas.now c.before.before.before.before.before.before.before.before.before.before.before.before.args.upper_words.now c.before.before.before.before.before.before.before.before.before.before.before.before.args.upper_deltas.now) c.refused3.ensures
+    ∙ refused_1 c.before.before.before.before.before.before.before.before.before.before.before.before.args.lower_words.now c.before.before.before.before.before.before.before.before.before.before.before.before.args.lower_deltas.now c.before.before.before.before.before.before.before.before.before.before.before.before.args.upper_words.now c.before.before.before.before.before.before.before.before.before.before.before.before.args.upper_deltas.now c.before.before.before.before.before.before.before.before.before.before.before.before.args.growing c.before.before.before.before.before.before.before.before.before.before.before.before.args.key c.before.before.before.before.before.before.before.before.before.before.before.before.args.value (sym c.before.before.passes.ensures ∙ c.before.if1.false)
 
 pub insert-spec : {M : Type 1} → statement M
 insert-spec =

@@ -21,7 +21,7 @@ same-length-2 c = search rules
 
 returns : tie.Need-returns
 returns c =
-    round_answered c.before.before.before.before.before.before.before.before.before.before.before.before.args.cells c.before.before.before.before.before.before.before.before.before.before.before.before.args.size c.before.before.before.before.before.before.before.before.before.before.before.before.args.live c.before.before.before.before.before.before.before.before.before.before.before.before.args.hash c.before.before.before.before.before.before.before.before.before.before.before.before.args.key c.before.before.before.before.before.before.before.before.before.before.before.before.args.value c.before.before.before.before.before.before.before.before.before.before.before.before.args.words.now c.before.before.before.before.before.before.before.before.before.before.before.before.args.deltas.now c.before.before.before.before.before.before.before.before.before.before.before.before.args.spare_words_lem.now c.before.before.before.before.before.before.before.before.before.before.before.before.args.spare_deltas_lem.now c.before.before.before.before.before.insert-stored.result _ _ c.before.before.before.before.before.insert-stored.ensures.done
+    round_answered c.before.before.before.before.before.before.before.before.before.before.before.before.args.cells c.before.before.before.before.before.before.before.before.before.before.before.before.args.size c.before.before.before.before.before.before.before.before.before.before.before.before.args.live c.before.before.before.before.before.before.before.before.before.before.before.before.args.hash c.before.before.before.before.before.before.before.before.before.before.before.before.args.key c.before.before.before.before.before.before.before.before.before.before.before.before.args.value c.before.before.before.before.before.before.before.before.before.before.before.before.args.words.now c.before.before.before.before.before.before.before.before.before.before.before.before.args.deltas.now c.before.before.before.before.before.before.before.before.before.before.before.before.args.spare_words.now c.before.before.before.before.before.before.before.before.before.before.before.before.args.spare_deltas.now c.before.before.before.before.before.insert-stored.result _ _ c.before.before.before.before.before.insert-stored.ensures.done
     (λ at q. ⊎_elim (λ e. omega arith) (λ e. ⊎_elim (λ e. omega arith) (λ e. ⊎_elim (λ e. omega arith) (λ e. ⊎_elim (λ e. omega arith) (λ e. ⊎_elim (λ e. omega arith) (λ e. ⊎_elim (λ e. omega arith) (λ e. omega arith) e) e) e) e) e) (rw q at c.match.keys2))
 
 after-full-requires : tie.Need-after-full-requires
@@ -34,8 +34,8 @@ after-full-requires c κs =
       cells_size = p.cells_size;
       words = k.0 ∙ p.words;
       deltas = k.1.0 ∙ p.deltas;
-      spare_words_lem = p.spare_words_lem;
-      spare_deltas_lem = p.spare_deltas_lem;
+      spare_words_length = p.spare_words_length;
+      spare_deltas_length = p.spare_deltas_length;
     }
 
 same-length-3 : tie.Need-same-length-3
@@ -51,7 +51,7 @@ same-length-6 : tie.Need-same-length-6
 same-length-6 c = search rules
 
 returns-2 : tie.Need-returns-2
-returns-2 c = round_full c.before.before.before.before.before.before.before.before.before.before.before.before.before.before.before.before.before.before.before.before.before.before.before.before.before.before.before.args.cells c.before.before.before.before.before.before.before.before.before.before.before.before.before.before.before.before.before.before.before.before.before.before.before.before.before.before.before.args.size c.before.before.before.before.before.before.before.before.before.before.before.before.before.before.before.before.before.before.before.before.before.before.before.before.before.before.before.args.live c.before.before.before.before.before.before.before.before.before.before.before.before.before.before.before.before.before.before.before.before.before.before.before.before.before.before.before.args.hash c.before.before.before.before.before.before.before.before.before.before.before.before.before.before.before.before.before.before.before.before.before.before.before.before.before.before.before.args.key c.before.before.before.before.before.before.before.before.before.before.before.before.before.before.before.before.before.before.before.before.before.before.before.before.before.before.before.args.value c.before.before.before.before.before.before.before.before.before.before.before.before.before.before.before.before.before.before.before.before.before.before.before.before.before.before.before.args.words.now c.before.before.before.before.before.before.before.before.before.before.before.before.before.before.before.before.before.before.before.before.before.before.before.before.before.before.before.args.deltas.now c.before.before.before.before.before.before.before.before.before.before.before.before.before.before.before.before.before.before.before.before.before.before.before.before.before.before.before.args.spare_words_lem.now c.before.before.before.before.before.before.before.before.before.before.before.before.before.before.before.before.before.before.before.before.before.before.before.before.before.before.before.args.spare_deltas_lem.now c.before.before.before.before.before.before.before.before.before.before.before.before.before.before.before.before.before.before.before.before.insert-stored.result _ _ c.before.before.before.before.before.before.before.before.before.before.before.before.before.before.before.before.before.before.before.before.insert-stored.ensures.done c.before.before.before.before.before.before.before.before.before.before.before.before.before.before.said.given.0.0 c.before.before.before.before.before.before.before.before.before.before.before.before.before.before.said.given.1 _ c.before.before.before.before.before.before.before.before.after_full.ensures
+returns-2 c = round_full c.before.before.before.before.before.before.before.before.before.before.before.before.before.before.before.before.before.before.before.before.before.before.before.before.before.before.before.args.cells c.before.before.before.before.before.before.before.before.before.before.before.before.before.before.before.before.before.before.before.before.before.before.before.before.before.before.before.args.size c.before.before.before.before.before.before.before.before.before.before.before.before.before.before.before.before.before.before.before.before.before.before.before.before.before.before.before.args.live c.before.before.before.before.before.before.before.before.before.before.before.before.before.before.before.before.before.before.before.before.before.before.before.before.before.before.before.args.hash c.before.before.before.before.before.before.before.before.before.before.before.before.before.before.before.before.before.before.before.before.before.before.before.before.before.before.before.args.key c.before.before.before.before.before.before.before.before.before.before.before.before.before.before.before.before.before.before.before.before.before.before.before.before.before.before.before.args.value c.before.before.before.before.before.before.before.before.before.before.before.before.before.before.before.before.before.before.before.before.before.before.before.before.before.before.before.args.words.now c.before.before.before.before.before.before.before.before.before.before.before.before.before.before.before.before.before.before.before.before.before.before.before.before.before.before.before.args.deltas.now c.before.before.before.before.before.before.before.before.before.before.before.before.before.before.before.before.before.before.before.before.before.before.before.before.before.before.before.args.spare_words.now c.before.before.before.before.before.before.before.before.before.before.before.before.before.before.before.before.before.before.before.before.before.before.before.before.before.before.before.args.spare_deltas.now c.before.before.before.before.before.before.before.before.before.before.before.before.before.before.before.before.before.before.before.before.insert-stored.result _ _ c.before.before.before.before.before.before.before.before.before.before.before.before.before.before.before.before.before.before.before.before.insert-stored.ensures.done c.before.before.before.before.before.before.before.before.before.before.before.before.before.before.said.given.0.0 c.before.before.before.before.before.before.before.before.before.before.before.before.before.before.said.given.1 _ c.before.before.before.before.before.before.before.before.after_full.ensures
 
 pub one-round-spec : {M : Type 1} → statement M
 one-round-spec =

@@ -10,13 +10,13 @@ enum_told : tie.Need-enum-told
 enum_told c = search rules
 
 one-round-requires : tie.Need-one-round-requires
-one-round-requires c κs = subst (λ x. Sides (half_of x) c.before.before.before.before.before.before.before.before.before.before.args.lower_words_lem.now c.before.before.before.before.before.before.before.before.before.before.args.lower_deltas_lem.now c.before.before.before.before.before.before.before.before.before.before.args.upper_words_lem.now c.before.before.before.before.before.before.before.before.before.before.args.upper_deltas_lem.now c.before.before.before.before.before.before.before.before.before.before.args.cells c.before.before.before.before.before.before.before.before.before.before.args.size) c.before.before.before.before.enum_told.given.1 c.before.before.before.before.before.before.before.before.before.before.requires
+one-round-requires c κs = subst (λ x. Sides (half_of x) c.before.before.before.before.before.before.before.before.before.before.args.lower_words.now c.before.before.before.before.before.before.before.before.before.before.args.lower_deltas.now c.before.before.before.before.before.before.before.before.before.before.args.upper_words.now c.before.before.before.before.before.before.before.before.before.before.args.upper_deltas.now c.before.before.before.before.before.before.before.before.before.before.args.cells c.before.before.before.before.before.before.before.before.before.before.args.size) c.before.before.before.before.enum_told.given.1 c.before.before.before.before.before.before.before.before.before.before.requires
 
 enum-told-2 : tie.Need-enum-told-2
 enum-told-2 c = search rules
 
 one-round-requires-2 : tie.Need-one-round-requires-2
-one-round-requires-2 c κs = subst (λ x. Sides (half_of x) c.before.before.before.before.before.before.before.before.before.before.args.lower_words_lem.now c.before.before.before.before.before.before.before.before.before.before.args.lower_deltas_lem.now c.before.before.before.before.before.before.before.before.before.before.args.upper_words_lem.now c.before.before.before.before.before.before.before.before.before.before.args.upper_deltas_lem.now c.before.before.before.before.before.before.before.before.before.before.args.cells c.before.before.before.before.before.before.before.before.before.before.args.size) c.before.before.before.before.enum-told2.given.1 c.before.before.before.before.before.before.before.before.before.before.requires
+one-round-requires-2 c κs = subst (λ x. Sides (half_of x) c.before.before.before.before.before.before.before.before.before.before.args.lower_words.now c.before.before.before.before.before.before.before.before.before.before.args.lower_deltas.now c.before.before.before.before.before.before.before.before.before.before.args.upper_words.now c.before.before.before.before.before.before.before.before.before.before.args.upper_deltas.now c.before.before.before.before.before.before.before.before.before.before.args.cells c.before.before.before.before.before.before.before.before.before.before.args.size) c.before.before.before.before.enum-told2.given.1 c.before.before.before.before.before.before.before.before.before.before.requires
 
 same_length : tie.Need-same-length
 same_length c = search rules
@@ -31,7 +31,7 @@ same-length-4 : tie.Need-same-length-4
 same-length-4 c = search rules
 
 returns : tie.Need-returns
-returns c = λ hasher. c.before.before.before.before.before.before.before.before.one-round.ensures hasher ∙ sym (ap (λ x. turn_sides (half_of x) c.before.before.before.before.before.before.before.before.before.before.before.before.before.before.before.before.before.before.before.args.cells hasher c.before.before.before.before.before.before.before.before.before.before.before.before.before.before.before.before.before.before.before.args.size c.before.before.before.before.before.before.before.before.before.before.before.before.before.before.before.before.before.before.before.args.live c.before.before.before.before.before.before.before.before.before.before.before.before.before.before.before.before.before.before.before.args.hash c.before.before.before.before.before.before.before.before.before.before.before.before.before.before.before.before.before.before.before.args.key c.before.before.before.before.before.before.before.before.before.before.before.before.before.before.before.before.before.before.before.args.value c.before.before.before.before.before.before.before.before.before.before.before.before.before.before.before.before.before.before.before.args.lower_words_lem.now c.before.before.before.before.before.before.before.before.before.before.before.before.before.before.before.before.before.before.before.args.lower_deltas_lem.now c.before.before.before.before.before.before.before.before.before.before.before.before.before.before.before.before.before.before.before.args.upper_words_lem.now c.before.before.before.before.before.before.before.before.before.before.before.before.before.before.before.before.before.before.before.args.upper_deltas_lem.now) c.before.before.before.before.before.before.before.before.before.before.before.before.before.enum_told.given.1)
+returns c = λ hasher. c.before.before.before.before.before.before.before.before.one-round.ensures hasher ∙ sym (ap (λ x. turn_sides (half_of x) c.before.before.before.before.before.before.before.before.before.before.before.before.before.before.before.before.before.before.before.args.cells hasher c.before.before.before.before.before.before.before.before.before.before.before.before.before.before.before.before.before.before.before.args.size c.before.before.before.before.before.before.before.before.before.before.before.before.before.before.before.before.before.before.before.args.live c.before.before.before.before.before.before.before.before.before.before.before.before.before.before.before.before.before.before.before.args.hash c.before.before.before.before.before.before.before.before.before.before.before.before.before.before.before.before.before.before.before.args.key c.before.before.before.before.before.before.before.before.before.before.before.before.before.before.before.before.before.before.before.args.value c.before.before.before.before.before.before.before.before.before.before.before.before.before.before.before.before.before.before.before.args.lower_words.now c.before.before.before.before.before.before.before.before.before.before.before.before.before.before.before.before.before.before.before.args.lower_deltas.now c.before.before.before.before.before.before.before.before.before.before.before.before.before.before.before.before.before.before.before.args.upper_words.now c.before.before.before.before.before.before.before.before.before.before.before.before.before.before.before.before.before.before.before.args.upper_deltas.now) c.before.before.before.before.before.before.before.before.before.before.before.before.before.enum_told.given.1)
 
 same-length-5 : tie.Need-same-length-5
 same-length-5 c = search rules
@@ -46,7 +46,7 @@ same-length-8 : tie.Need-same-length-8
 same-length-8 c = search rules
 
 returns-2 : tie.Need-returns-2
-returns-2 c = λ hasher. ap swapped (c.before.before.before.before.before.before.before.before.one-round2.ensures hasher) ∙ sym (ap (λ x. turn_sides (half_of x) c.before.before.before.before.before.before.before.before.before.before.before.before.before.before.before.before.before.before.before.args.cells hasher c.before.before.before.before.before.before.before.before.before.before.before.before.before.before.before.before.before.before.before.args.size c.before.before.before.before.before.before.before.before.before.before.before.before.before.before.before.before.before.before.before.args.live c.before.before.before.before.before.before.before.before.before.before.before.before.before.before.before.before.before.before.before.args.hash c.before.before.before.before.before.before.before.before.before.before.before.before.before.before.before.before.before.before.before.args.key c.before.before.before.before.before.before.before.before.before.before.before.before.before.before.before.before.before.before.before.args.value c.before.before.before.before.before.before.before.before.before.before.before.before.before.before.before.before.before.before.before.args.lower_words_lem.now c.before.before.before.before.before.before.before.before.before.before.before.before.before.before.before.before.before.before.before.args.lower_deltas_lem.now c.before.before.before.before.before.before.before.before.before.before.before.before.before.before.before.before.before.before.before.args.upper_words_lem.now c.before.before.before.before.before.before.before.before.before.before.before.before.before.before.before.before.before.before.before.args.upper_deltas_lem.now) c.before.before.before.before.before.before.before.before.before.before.before.before.before.enum-told2.given.1)
+returns-2 c = λ hasher. ap swapped (c.before.before.before.before.before.before.before.before.one-round2.ensures hasher) ∙ sym (ap (λ x. turn_sides (half_of x) c.before.before.before.before.before.before.before.before.before.before.before.before.before.before.before.before.before.before.before.args.cells hasher c.before.before.before.before.before.before.before.before.before.before.before.before.before.before.before.before.before.before.before.args.size c.before.before.before.before.before.before.before.before.before.before.before.before.before.before.before.before.before.before.before.args.live c.before.before.before.before.before.before.before.before.before.before.before.before.before.before.before.before.before.before.before.args.hash c.before.before.before.before.before.before.before.before.before.before.before.before.before.before.before.before.before.before.before.args.key c.before.before.before.before.before.before.before.before.before.before.before.before.before.before.before.before.before.before.before.args.value c.before.before.before.before.before.before.before.before.before.before.before.before.before.before.before.before.before.before.before.args.lower_words.now c.before.before.before.before.before.before.before.before.before.before.before.before.before.before.before.before.before.before.before.args.lower_deltas.now c.before.before.before.before.before.before.before.before.before.before.before.before.before.before.before.before.before.before.before.args.upper_words.now c.before.before.before.before.before.before.before.before.before.before.before.before.before.before.before.before.before.before.before.args.upper_deltas.now) c.before.before.before.before.before.before.before.before.before.before.before.before.before.enum-told2.given.1)
 
 pub turn_spec : {M : Type 1} → statement M
 turn_spec =

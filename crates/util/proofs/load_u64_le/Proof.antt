@@ -10,7 +10,7 @@ number-of-requires c κs = search rules
 
 returns : tie.Need-returns
 unfolding load
-returns c = simp (le-leb _ _ c.before.if1.true, c.number_of_lem.ensures)
+returns c = simp (le-leb _ _ c.before.if1.true, c.number_of.ensures)
 
 returns-2 : tie.Need-returns-2
 unfolding load

@@ -4,10 +4,10 @@ use Rattle.serving.proofs.lines.serve.Statement.{statement}
 use Rattle.serving.proofs.lines.serve.Tie as tie
 
 abbrev invariant-loop : tie.invariant-loop
-invariant-loop words₀ deltas₀ spare-words₀ spare-deltas₀ input₀ room₀ n replay going₀ turns₀ words deltas spare_words_lem spare_deltas_lem input room going turns = (length words ≡ length words₀) × (length deltas ≡ length deltas₀) × (length spare_words_lem ≡ length spare-words₀) × (length spare_deltas_lem ≡ length spare-deltas₀) × (length input ≡ length input₀) × (length room ≡ length room₀)
+invariant-loop words₀ deltas₀ spare-words₀ spare-deltas₀ input₀ room₀ n replay going₀ turns₀ words deltas spare_words_length spare_deltas_length input room going turns = (length words ≡ length words₀) × (length deltas ≡ length deltas₀) × (length spare_words_length ≡ length spare-words₀) × (length spare_deltas_length ≡ length spare-deltas₀) × (length input ≡ length input₀) × (length room ≡ length room₀)
 
 abbrev decreases-loop : tie.decreases-loop
-decreases-loop words₀ deltas₀ spare-words₀ spare-deltas₀ input₀ room₀ n replay going₀ turns₀ words deltas spare_words_lem spare_deltas_lem input room going turns = turns
+decreases-loop words₀ deltas₀ spare-words₀ spare-deltas₀ input₀ room₀ n replay going₀ turns₀ words deltas spare_words_length spare_deltas_length input room going turns = turns
 
 start-requires : tie.Need-start-requires invariant-loop decreases-loop
 start-requires c κs = search rules
