@@ -1,5 +1,7 @@
 // Internal: the two lent slices of a table, the walk and the probe over them, and insert by a stored hash.
 // Nothing here is a public call: the functions ask for slices of an allowed shape.
+#![tactic(auto)]
+
 pub mod clear;
 pub mod insert;
 pub mod slices;

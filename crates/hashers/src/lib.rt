@@ -1,4 +1,6 @@
 // The hashers of lib.rs: which there are, the hash of a key, and the exports for C.
+#![tactic(auto)]
+
 mod fnv;
 mod murmur;
 mod simple;

@@ -1,4 +1,6 @@
 // The helpers of util.rs, and the multiply that the hashers wrap.
+#![tactic(auto)]
+
 ghost use Rattle.std.specs.Prelude.{◌≡◌, ◌*◌, ◌%◌, ◌^◌, ◌≤◌, length};
 ghost use Rattle.util.specs.Bytes.{number, load, said};
 ghost use Rattle.util.specs.Power.{round_up};

@@ -1,0 +1,14 @@
+-- `hashers::MurmurHasher::write` meets its contract. Assumes nothing.
+use borrow.Author.Rules.{rules}
+use mathlib.Core.Path.{sym, ap, ◌∙◌}
+use Rattle.util.specs.Bytes.{said}
+use Rattle.hashers.specs.Published.{fmix64}
+use Rattle.hashers.specs.Writes.{taken}
+use Rattle.hashers.proofs.Replaced.{of_number, of_length}
+use Rattle.hashers.proofs.murmur.MurmurHasher.write.Goals as goal
+
+pub returns-in-Number : goal.returns-in-Number
+returns-in-Number c = ap taken c.fmix.ensures ∙ of_number fmix64 _ _ _ (ap said (sym c.in-Number.is) ∙ c.load_u64_le.ensures)
+
+pub returns-in-Length : goal.returns-in-Length
+returns-in-Length c = of_length fmix64 _ _ (ap said (sym c.in-Length.is) ∙ c.load_u64_le.ensures)
