@@ -4,8 +4,10 @@
 use forms::bytes;
 use forms::line::write_part;
 use kept::State;
-use libc::STDIN_FILENO;
 use serving::{lines, turn};
+
+// Standard input.
+const STDIN_FILENO: i32 = 0;
 
 // Answers request i of a block, one of at most 512.
 fn one(

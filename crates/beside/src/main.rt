@@ -8,7 +8,9 @@ ghost use Rattle.bucketfind.specs.Slice.{buckets_lent};
 use buckets::Bucket;
 use hashers::Hasher;
 use hashmap::{ClearSaid, FindAnswer, FindSaid, Table};
-use libc::STDOUT_FILENO;
+
+// Standard output.
+const STDOUT_FILENO: i32 = 1;
 
 // The lookup over two buckets, which are lent as a slice.
 fn find_two(first: Bucket, second: Bucket, table: Table, key: u64) -> FindAnswer

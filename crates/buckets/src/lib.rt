@@ -6,7 +6,7 @@ ghost use Rattle.buckets.specs.Buckets.{cell_at, bucket_at, empty_bucket, filled
 use cells::{Table, slices};
 
 // The three words of a cell.
-#[derive(Drop)]
+#[derive(Clone, Copy)]
 pub struct Cell {
     pub hash: u64,
     pub key: u64,
@@ -14,14 +14,14 @@ pub struct Cell {
 }
 
 // Bucket b of a table is its cells from 4b on: the first deltas of the four, their second deltas, and the cells.
-#[derive(Drop)]
+#[derive(Clone, Copy)]
 pub struct Bucket {
     pub deltas: [u8; 8],
     pub cells: [Cell; 4],
 }
 
 // What taking a bucket out says.
-#[derive(Drop)]
+#[derive(Clone, Copy)]
 pub enum TakeSaid {
     Taken,
     // Refusal 1.
@@ -29,14 +29,14 @@ pub enum TakeSaid {
 }
 
 // The bucket that was taken out; under a refusal an empty one.
-#[derive(Drop)]
+#[derive(Clone, Copy)]
 pub struct TakeAnswer {
     pub said: TakeSaid,
     pub bucket: Bucket,
 }
 
 // What putting a bucket back says.
-#[derive(Drop)]
+#[derive(Clone, Copy)]
 pub enum PutSaid {
     Put,
     // Refusal 1.
@@ -44,7 +44,7 @@ pub enum PutSaid {
 }
 
 // What reading a cell of a bucket says.
-#[derive(Drop)]
+#[derive(Clone, Copy)]
 pub enum CellSaid {
     Cell(Cell),
     // Refusal 1.
@@ -52,7 +52,7 @@ pub enum CellSaid {
 }
 
 // What changing a cell of a bucket says.
-#[derive(Drop)]
+#[derive(Clone, Copy)]
 pub enum ChangeSaid {
     Changed,
     // Refusal 1.
@@ -60,7 +60,7 @@ pub enum ChangeSaid {
 }
 
 // The bucket with the cell changed; under a refusal as it was.
-#[derive(Drop)]
+#[derive(Clone, Copy)]
 pub struct ChangeAnswer {
     pub said: ChangeSaid,
     pub bucket: Bucket,

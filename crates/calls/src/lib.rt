@@ -7,13 +7,13 @@ use hashmap::{ClearSaid, FindSaid, InsertSaid, RemoveSaid, Table};
 use hashreads::{CapacitySaid, ContainsSaid, KeyValueSaid};
 
 // What a call said, and the record after it.
-#[derive(Drop)]
+#[derive(Clone, Copy)]
 pub struct Called {
     pub told: Told,
     pub table: Table,
 }
 
-#[derive(Drop)]
+#[derive(Clone, Copy)]
 pub enum Named {
     Is(Hasher),
     None,

@@ -14,13 +14,13 @@ use crate::{Table, cell_of, window_of};
 use std::num::wrapping_add_u64;
 
 // What Full carries: the position past the window.
-#[derive(Drop)]
+#[derive(Clone, Copy)]
 pub struct FullAt {
     pub position: u64,
 }
 
 // What an insert says, with its refusals.
-#[derive(Drop)]
+#[derive(Clone, Copy)]
 pub enum InsertSaid {
     New,
     Replaced(u64),
@@ -38,7 +38,7 @@ pub enum InsertSaid {
 }
 
 // What a worker did: the answer, the cells looked at, and live afterwards.
-#[derive(Drop)]
+#[derive(Clone, Copy)]
 pub struct Inserted {
     pub said: InsertSaid,
     pub looked: usize,

@@ -15,7 +15,7 @@ ghost use Rattle.cells.specs.Layout.{null, size_in, is_shaped, offered_by};
 use hashers::Hasher;
 
 // The record of a table.
-#[derive(Drop)]
+#[derive(Clone, Copy)]
 pub struct Table {
     pub hasher: Hasher,
     pub live: usize,
@@ -33,7 +33,7 @@ impl Table {
 }
 
 // Whether a value can be offered.
-#[derive(Drop)]
+#[derive(Clone, Copy)]
 pub enum Offered {
     Fine,
     // Refusal 3.

@@ -11,14 +11,14 @@ use crate::slices::{first_delta, hash_at, holds_at, second_delta};
 use std::num::wrapping_add_u64;
 
 // Where a walk stops, by position.
-#[derive(Drop)]
+#[derive(Clone, Copy)]
 pub enum Stop {
     Met(u64),
     Tail(u64),
     Broken,
 }
 
-#[derive(Drop)]
+#[derive(Clone, Copy)]
 pub struct Walked {
     pub stop: Stop,
     pub looked: usize,
@@ -64,7 +64,7 @@ pub fn walk_to(words: &[u64], deltas: &[u8], size: usize, hash: u64, key: u64) -
 }
 
 // What a probe finds: the distance of the first empty cell, or none.
-#[derive(Drop)]
+#[derive(Clone, Copy)]
 pub enum Hit {
     Free(usize),
     Taken,

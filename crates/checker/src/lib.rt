@@ -13,7 +13,7 @@ use hashers::{Hasher, hash_of};
 use std::num::wrapping_add_u64;
 
 // What the checker says.
-#[derive(Drop)]
+#[derive(Clone, Copy)]
 pub enum CheckSaid {
     Sound,
     // 1

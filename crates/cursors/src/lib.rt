@@ -10,14 +10,14 @@ use hashentry::{CellAt, Entry, Place};
 use hashiter::{Cursor, SetSaid, StepSaid};
 
 // What a user holds beside the table.
-#[derive(Drop)]
+#[derive(Clone, Copy)]
 pub struct Hand {
     pub cursor: Cursor,
     pub entry: Entry,
 }
 
 // What a call said, and the record and what is held after it.
-#[derive(Drop)]
+#[derive(Clone, Copy)]
 pub struct Handed {
     pub told: Told,
     pub table: Table,

@@ -29,13 +29,13 @@ pub fn passes_at(words: &[u64], deltas: &[u8], live: usize, place: Place) -> boo
 }
 
 // A cell with the value that it holds.
-#[derive(Drop)]
+#[derive(Clone, Copy)]
 pub struct CellValue {
     pub index: usize,
     pub value: u64,
 }
 
-#[derive(Drop)]
+#[derive(Clone, Copy)]
 pub enum Looked {
     Held(CellValue),
     // 2

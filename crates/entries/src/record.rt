@@ -1,18 +1,18 @@
 // The entry record.
 
 // The cell of an Occupied entry.
-#[derive(Drop)]
+#[derive(Clone, Copy)]
 pub struct CellAt {
     pub index: usize,
 }
 
-#[derive(Drop)]
+#[derive(Clone, Copy)]
 pub enum Place {
     Occupied(CellAt),
     Vacant,
 }
 
-#[derive(Drop)]
+#[derive(Clone, Copy)]
 pub struct Entry {
     pub key: u64,
     pub hash: u64,

@@ -15,7 +15,7 @@ use entries::record::{Entry, Place};
 use hashers::hash_of;
 
 // What a call that inserts answers, with the entry and the record afterwards.
-#[derive(Drop)]
+#[derive(Clone, Copy)]
 pub struct EntryInsertAnswer {
     pub said: EntryInsertSaid,
     // Occupied where a value stands under the key; as it was where the call is refused.
@@ -24,7 +24,7 @@ pub struct EntryInsertAnswer {
 }
 
 // What is done with an Occupied entry.
-#[derive(Drop)]
+#[derive(Clone, Copy)]
 pub enum Doing {
     Refuse,
     Keep,

@@ -18,7 +18,7 @@ use cells::{Table, cell_of};
 use entries::record::{CellAt, Place};
 
 // What a call that inserts says. Found: the value that or_insert kept. Replaced: by insert_entry.
-#[derive(Drop)]
+#[derive(Clone, Copy)]
 pub enum EntryInsertSaid {
     New,
     Replaced(u64),
@@ -72,7 +72,7 @@ fn insert_after(
     insert_walked(words, deltas, size, live, hash, key, value, stop, looked)
 }
 
-#[derive(Drop)]
+#[derive(Clone, Copy)]
 struct Told {
     said: EntryInsertSaid,
     place: Place,
@@ -120,7 +120,7 @@ fn tell(said: InsertSaid, index: usize) -> Told
 }
 
 // What was done with a Vacant entry: the answer, the place of its key, and live.
-#[derive(Drop)]
+#[derive(Clone, Copy)]
 pub struct Putting {
     pub said: EntryInsertSaid,
     pub place: Place,

@@ -13,7 +13,7 @@ pub mod told;
 pub mod words;
 
 // What is asked: a kind by its number, and what it carries.
-#[derive(Drop)]
+#[derive(Clone, Copy)]
 pub struct Request {
     pub kind: u64,
     pub a: u64,
@@ -24,7 +24,7 @@ pub struct Request {
 
 // What was said, by the numbers of `said`, with its values and the cells looked at; the record after it; the number of
 // cells, 0 for a bad shape; and the digest, 0 for none.
-#[derive(Drop)]
+#[derive(Clone, Copy)]
 pub struct Answer {
     pub said: u64,
     pub first: u64,

@@ -1,6 +1,8 @@
 // A line of text that is being made: an array, and how much of it is used. What does not fit is left out.
 use check::same;
-use libc::STDOUT_FILENO;
+
+// Standard output.
+const STDOUT_FILENO: i32 = 1;
 
 fn push(line: &mut [u8; 512], used: usize, byte: u8) -> usize {
     if used < 512 {

@@ -1,9 +1,11 @@
 // Lines from standard input, one after the other.
-use libc::STDIN_FILENO;
+
+// Standard input.
+const STDIN_FILENO: i32 = 0;
 
 // Where the reading is: the next place of the input, how much of it there is, the length of the line read so far, and
 // whether that line is whole and whether the input is at its end.
-#[derive(Drop)]
+#[derive(Clone, Copy)]
 pub struct Reader {
     pub at: usize,
     pub n: usize,

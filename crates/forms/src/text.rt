@@ -5,7 +5,7 @@ use crate::words::{Part, Reading, number, slice, word};
 use crate::{Answer, Request, growing, kinds, said};
 
 // A number in a line, and where what follows starts.
-#[derive(Drop)]
+#[derive(Clone, Copy)]
 struct Taking {
     number: Reading,
     to: usize,

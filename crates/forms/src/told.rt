@@ -1,5 +1,5 @@
 // What was said, by the numbers of `forms::said`, with its values and the cells looked at.
-#[derive(Drop)]
+#[derive(Clone, Copy)]
 pub struct Told {
     pub said: u64,
     pub first: u64,

@@ -48,7 +48,7 @@ pub fn entry(names: &[u8], at: usize, width: usize) -> &[u8] {
 }
 
 // A part of a line.
-#[derive(Drop)]
+#[derive(Clone, Copy)]
 pub struct Part {
     pub from: usize,
     pub to: usize,
@@ -73,7 +73,7 @@ pub fn slice(line: &[u8], part: Part) -> &[u8] {
 }
 
 // A number, or what a word is in its place.
-#[derive(Drop)]
+#[derive(Clone, Copy)]
 pub enum Reading {
     Is(u64),
     None,

@@ -4,9 +4,11 @@ use growth::{GrowAnswer, GrowSaid};
 use halves::{ClearHalvesSaid, FindSaid, RemoveSaid};
 use hashers::Hasher;
 use hashmap::Table;
-use libc::STDOUT_FILENO;
 use parts::{Growing, Half};
 use std::num::wrapping_add_u64;
+
+// Standard output.
+const STDOUT_FILENO: i32 = 1;
 
 fn text(bytes: &[u8]) {
     io::write_all(STDOUT_FILENO, bytes);

@@ -11,7 +11,7 @@ use kept::{Named, hasher_of};
 use parts::{Growing, Half};
 
 // What a call said, and the growing record after it.
-#[derive(Drop)]
+#[derive(Clone, Copy)]
 pub struct Grown {
     pub told: Told,
     pub growing: Growing,

@@ -20,7 +20,7 @@ use parts::{Growing, Half};
 use sizing::{first_size, sample};
 
 // What a growing insert says, with its refusals. It is never Full.
-#[derive(Drop)]
+#[derive(Clone, Copy)]
 pub enum GrowSaid {
     New,
     Replaced(u64),
@@ -37,7 +37,7 @@ pub enum GrowSaid {
     NoRoom,
 }
 
-#[derive(Drop)]
+#[derive(Clone, Copy)]
 pub struct GrowAnswer {
     pub said: GrowSaid,
     // How many cells the last insert looked at.
@@ -48,7 +48,7 @@ pub struct GrowAnswer {
 }
 
 // How the tries of a round end.
-#[derive(Drop)]
+#[derive(Clone, Copy)]
 enum Tried {
     To(usize),
     NoRoom,
@@ -107,7 +107,7 @@ fn try_sizes(
 }
 
 // How a round ends: with the insert's answer, or after Full.
-#[derive(Drop)]
+#[derive(Clone, Copy)]
 enum RoundEnd {
     Answered(InsertSaid),
     Moved(usize),
@@ -115,7 +115,7 @@ enum RoundEnd {
     Broken,
 }
 
-#[derive(Drop)]
+#[derive(Clone, Copy)]
 struct Turned {
     end: RoundEnd,
     looked: usize,
@@ -285,7 +285,7 @@ fn said_by(end: RoundEnd) -> GrowSaid
 }
 
 // What the rounds did.
-#[derive(Drop)]
+#[derive(Clone, Copy)]
 struct Grew {
     said: GrowSaid,
     looked: usize,

@@ -15,7 +15,7 @@ use moving::clear_both;
 use parts::internal::{are_halves, passes, size_fits};
 pub use parts::{Growing, Half};
 
-#[derive(Drop)]
+#[derive(Clone, Copy)]
 pub enum ClearHalvesSaid {
     Cleared(Growing),
     // 1
@@ -94,7 +94,7 @@ pub fn find(
     }
 }
 
-#[derive(Drop)]
+#[derive(Clone, Copy)]
 pub struct GrowingRemoveAnswer {
     pub said: RemoveSaid,
     pub looked: usize,

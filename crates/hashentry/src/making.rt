@@ -10,7 +10,7 @@ use cells::{Table, cell_of, passes};
 use entries::record::{CellAt, Entry, Place};
 use hashers::hash_of;
 
-#[derive(Drop)]
+#[derive(Clone, Copy)]
 pub enum EntrySaid {
     Made(Entry),
     // 1

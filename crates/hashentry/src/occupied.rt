@@ -10,7 +10,7 @@ use cells::{Offered, Table, offer};
 use entries::looking::{Looked, look, passes_at};
 use entries::record::Entry;
 
-#[derive(Drop)]
+#[derive(Clone, Copy)]
 pub enum GetSaid {
     Found(u64),
     // 1
@@ -46,7 +46,7 @@ pub fn get(words: &[u64], deltas: &[u8], table: Table, entry: Entry) -> GetSaid
     GetSaid::Shape
 }
 
-#[derive(Drop)]
+#[derive(Clone, Copy)]
 pub enum ReplaceSaid {
     Replaced(u64),
     // 1
@@ -98,7 +98,7 @@ pub fn replace(
     ReplaceSaid::Shape
 }
 
-#[derive(Drop)]
+#[derive(Clone, Copy)]
 pub enum EntryRemoveSaid {
     Removed(u64),
     // 1
@@ -111,7 +111,7 @@ pub enum EntryRemoveSaid {
     Stale,
 }
 
-#[derive(Drop)]
+#[derive(Clone, Copy)]
 pub struct EntryRemoveAnswer {
     pub said: EntryRemoveSaid,
     pub table: Table,
@@ -165,7 +165,7 @@ pub fn remove(words: &mut [u64], deltas: &[u8], table: Table, entry: Entry) -> E
 }
 
 // A remove's answer with the entry's key.
-#[derive(Drop)]
+#[derive(Clone, Copy)]
 pub struct RemoveEntryAnswer {
     pub said: EntryRemoveSaid,
     pub key: u64,

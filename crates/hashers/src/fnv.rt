@@ -12,7 +12,7 @@ fn fnv_byte(state: u64, byte: u8) -> u64
     util::wrapping_mul(state ^ (byte as u64), 0x100000001b3)
 }
 
-#[derive(Drop)]
+#[derive(Clone, Copy)]
 pub struct FnvHasher(pub u64);
 
 impl FnvHasher {

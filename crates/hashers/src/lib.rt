@@ -14,7 +14,7 @@ pub use murmur::{MurmurHasher, MurmurWrite};
 pub use simple::{SimpleHasher, SimpleWrite};
 
 // Which hasher a table uses.
-#[derive(Drop)]
+#[derive(Clone, Copy)]
 pub enum Hasher {
     Simple,
     Murmur,

@@ -14,11 +14,11 @@ pub(crate) fn fmix(x: u64) -> u64
     d ^ (d >> 33)
 }
 
-#[derive(Drop)]
+#[derive(Clone, Copy)]
 pub struct MurmurHasher(pub u64);
 
 // What a write answers: the state with the bytes in it, or refusal 8 with the state as it was.
-#[derive(Drop)]
+#[derive(Clone, Copy)]
 pub enum MurmurWrite {
     Written(MurmurHasher),
     Length(MurmurHasher),

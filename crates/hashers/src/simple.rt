@@ -2,11 +2,11 @@
 ghost use Rattle.std.specs.Prelude.{◌≡◌};
 ghost use Rattle.hashers.specs.Writes.{simple_said, simple_write, simple_start};
 
-#[derive(Drop)]
+#[derive(Clone, Copy)]
 pub struct SimpleHasher(pub u64);
 
 // What a write answers: the state with the bytes in it, or refusal 8 with the state as it was.
-#[derive(Drop)]
+#[derive(Clone, Copy)]
 pub enum SimpleWrite {
     Written(SimpleHasher),
     Length(SimpleHasher),

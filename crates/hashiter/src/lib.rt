@@ -10,13 +10,13 @@ use cells::slices::{hash_at, is_live, key_at, store_value, value_at};
 use cells::{Offered, offer, passes};
 
 // Goes over the live cells in index order: the index of the cell to look at next.
-#[derive(Drop)]
+#[derive(Clone, Copy)]
 pub struct Cursor {
     pub position: usize,
 }
 
 // A cell that a step hands back.
-#[derive(Drop)]
+#[derive(Clone, Copy)]
 pub struct LiveCell {
     pub index: usize,
     pub key: u64,
@@ -24,7 +24,7 @@ pub struct LiveCell {
 }
 
 // What a step says, with its refusal.
-#[derive(Drop)]
+#[derive(Clone, Copy)]
 pub enum StepSaid {
     Next(LiveCell),
     End,
@@ -32,7 +32,7 @@ pub enum StepSaid {
     Shape,
 }
 
-#[derive(Drop)]
+#[derive(Clone, Copy)]
 pub struct Stepped {
     // Past the cell; at the end at S, or where it was beyond S; under 1 as it was.
     pub cursor: Cursor,
@@ -40,7 +40,7 @@ pub struct Stepped {
 }
 
 // What setting a value says, with its refusals.
-#[derive(Drop)]
+#[derive(Clone, Copy)]
 pub enum SetSaid {
     Replaced(u64),
     Absent,

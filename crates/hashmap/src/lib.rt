@@ -14,7 +14,7 @@ use cells::{Offered, cell_of, is_shaped, offer, passes};
 use hashers::{Hasher, hash_of};
 
 // What a find says, with its refusals.
-#[derive(Drop)]
+#[derive(Clone, Copy)]
 pub enum FindSaid {
     Found(u64),
     Absent,
@@ -26,14 +26,14 @@ pub enum FindSaid {
     Broken,
 }
 
-#[derive(Drop)]
+#[derive(Clone, Copy)]
 pub struct FindAnswer {
     pub said: FindSaid,
     // How many cells were looked at.
     pub looked: usize,
 }
 
-#[derive(Drop)]
+#[derive(Clone, Copy)]
 pub enum RemoveSaid {
     Removed(u64),
     Absent,
@@ -45,21 +45,21 @@ pub enum RemoveSaid {
     Broken,
 }
 
-#[derive(Drop)]
+#[derive(Clone, Copy)]
 pub struct RemoveAnswer {
     pub said: RemoveSaid,
     pub looked: usize,
     pub table: Table,
 }
 
-#[derive(Drop)]
+#[derive(Clone, Copy)]
 pub struct InsertAnswer {
     pub said: InsertSaid,
     pub looked: usize,
     pub table: Table,
 }
 
-#[derive(Drop)]
+#[derive(Clone, Copy)]
 pub enum ClearSaid {
     Cleared(Table),
     // 1
@@ -221,7 +221,7 @@ pub fn remove(words: &mut [u64], deltas: &[u8], table: Table, key: u64) -> Remov
     }
 }
 
-#[derive(Drop)]
+#[derive(Clone, Copy)]
 struct Removing {
     said: RemoveSaid,
     looked: usize,

@@ -22,7 +22,7 @@ pub fn is_empty(table: Table) -> bool
     table.live == 0
 }
 
-#[derive(Drop)]
+#[derive(Clone, Copy)]
 pub enum CapacitySaid {
     Cells(usize),
     // 1
@@ -39,7 +39,7 @@ pub fn capacity(words: &[u64], deltas: &[u8]) -> CapacitySaid
     CapacitySaid::Shape
 }
 
-#[derive(Drop)]
+#[derive(Clone, Copy)]
 pub enum ContainsSaid {
     Yes,
     No,
@@ -65,13 +65,13 @@ pub fn contains_key(words: &[u64], deltas: &[u8], table: Table, key: u64) -> Con
     }
 }
 
-#[derive(Drop)]
+#[derive(Clone, Copy)]
 pub struct KeyValue {
     pub key: u64,
     pub value: u64,
 }
 
-#[derive(Drop)]
+#[derive(Clone, Copy)]
 pub enum KeyValueSaid {
     Pair(KeyValue),
     Absent,

@@ -12,7 +12,7 @@ use parts::{Growing, Half};
 
 // The record, how much is lent of the table's arrays and of the spare ones, whether each answer has a digest, the cursor and entry
 // that are held, and the size and the half in use of a growing table, which has the same table record.
-#[derive(Drop)]
+#[derive(Clone, Copy)]
 pub struct State {
     pub table: Table,
     pub words: usize,
@@ -38,7 +38,7 @@ const SPARE_DELTAS: u64 = 131_072;
 
 const SPARE_CELLS: u64 = 65_536;
 
-#[derive(Drop)]
+#[derive(Clone, Copy)]
 pub enum Named {
     Is(Hasher),
     None,

@@ -14,7 +14,7 @@ use hashers::Hasher;
 use moving::{MoveEnd, clear_both, move_into};
 
 // What a move says, with its refusals.
-#[derive(Drop)]
+#[derive(Clone, Copy)]
 pub enum MoveSaid {
     // The record of the new table.
     Moved(Table),

@@ -12,7 +12,7 @@ use cells::insert::{FullAt, InsertSaid, insert_stored};
 use cells::slices::{hash_at, key_at, value_at};
 
 // How a move ends.
-#[derive(Drop)]
+#[derive(Clone, Copy)]
 pub enum MoveEnd {
     // All went over, so many.
     All(usize),

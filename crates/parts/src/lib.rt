@@ -9,14 +9,14 @@ pub use record::{table, with_table};
 pub use used::{used_deltas, used_words};
 
 // The half in use.
-#[derive(Drop)]
+#[derive(Clone, Copy)]
 pub enum Half {
     Lower,
     Upper,
 }
 
 // The record of a growing table.
-#[derive(Drop)]
+#[derive(Clone, Copy)]
 pub struct Growing {
     pub table: Table,
     pub size: usize,

@@ -1,8 +1,12 @@
 // Replays recorded requests from standard input, holds each answer to the one that stands behind the request, and writes
 // how many requests there were and how many answers differ. compare/record writes the file stdin beside src/: the answers
 // are those of the Rust or, off its domain, of the model of document 01.
-use libc::{STDIN_FILENO, STDOUT_FILENO};
 use serving::lines;
+
+// Standard input.
+const STDIN_FILENO: i32 = 0;
+// Standard output.
+const STDOUT_FILENO: i32 = 1;
 
 fn main() {
     let mut words = [0u64; 393216];

@@ -11,7 +11,7 @@ use forms::{Answer, Request, kinds, said, told};
 use kept::{State, bucket, digest_of, forge, number_of};
 
 // An answer, and what is kept after it.
-#[derive(Drop)]
+#[derive(Clone, Copy)]
 pub struct Answered {
     pub answer: Answer,
     pub state: State,

@@ -6,17 +6,19 @@ use forms::words::place_of;
 use forms::{Answer, Request, kinds, line, text};
 use kept::State;
 use kept::show::show;
-use libc::STDOUT_FILENO;
+
+// Standard output.
+const STDOUT_FILENO: i32 = 1;
 
 // The request that a line is, and how much of the line it is. A line that is no request has a kind of its own.
-#[derive(Drop)]
+#[derive(Clone, Copy)]
 pub struct Question {
     pub request: Request,
     pub length: usize,
 }
 
 // How far a run is: what is kept, how many requests there were, and how many answers were not those recorded.
-#[derive(Drop)]
+#[derive(Clone, Copy)]
 struct Session {
     state: State,
     replay: bool,
@@ -25,7 +27,7 @@ struct Session {
 }
 
 // How many requests there were, and how many answers were not those recorded.
-#[derive(Drop)]
+#[derive(Clone, Copy)]
 pub struct Tally {
     pub requests: u64,
     pub differences: u64,
@@ -198,7 +200,7 @@ fn one(
 }
 
 // A session, and where the reading of lines is.
-#[derive(Drop)]
+#[derive(Clone, Copy)]
 struct Going {
     session: Session,
     reader: Reader,

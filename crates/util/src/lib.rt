@@ -53,7 +53,7 @@ fn number_of(bytes: &[u8]) -> u64
 }
 
 // What a load answers.
-#[derive(Drop)]
+#[derive(Clone, Copy)]
 pub enum Loaded {
     Number(u64),
     // Refusal 8.

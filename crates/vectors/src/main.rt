@@ -1,7 +1,9 @@
 // Prints what the hashers and the helpers give for published vectors and for the edges of their rules.
 // The file stdout beside src/ holds what is right; compare/vectors writes it anew without this code.
 use hashers::{Hasher, MurmurHasher, MurmurWrite};
-use libc::STDOUT_FILENO;
+
+// Standard output.
+const STDOUT_FILENO: i32 = 1;
 
 fn show(name: &[u8], value: u64) {
     io::write_all(STDOUT_FILENO, name);

@@ -3,7 +3,9 @@
 // The file stdout beside src/ is written from document 01.
 use hashers::Hasher;
 use hashmap::{ClearSaid, FindSaid, InsertSaid, RemoveSaid, Table};
-use libc::STDOUT_FILENO;
+
+// Standard output.
+const STDOUT_FILENO: i32 = 1;
 
 fn text(bytes: &[u8]) {
     io::write_all(STDOUT_FILENO, bytes);
