@@ -1,5 +1,7 @@
 // One bucket of a table, eight deltas and four cells, as a value: taken out, read or changed in one cell, put back.
 // These calls test the lengths of the slices and the index alone: they see no record of the table, and leave it.
+#![tactic(auto)]
+
 ghost use Rattle.std.specs.Prelude.{◌≡◌, ◌+◌, ◌*◌, ◌<◌, length};
 ghost use Rattle.buckets.specs.Buckets.{cell_at, bucket_at, empty_bucket, filled_by, words_with, deltas_with, fits_bucket, Inside, taken, taking, left, putting, changed, changing, cell_said, reading};
 

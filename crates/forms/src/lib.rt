@@ -1,5 +1,7 @@
 // Requests and answers as plain numbers, and the two forms that they have: bytes, and lines of text. compare/README.md has
 // the list of requests. A kind of request has its number and its word here, and what it does in the crate `serving`.
+#![tactic(auto)]
+
 pub mod bytes;
 pub mod digest;
 pub mod growing;

@@ -1,4 +1,6 @@
 // The cursor over a table's live cells, and setting a value at a cell. Every call is defined for any slices and any record.
+#![tactic(auto)]
+
 ghost use Rattle.std.specs.Prelude.{List, ◌≡◌, ℕ, ◌+◌, ◌*◌, ◌≤◌, ◌<◌, length};
 ghost use Rattle.hashers.specs.declared.Hasher.{Hasher};
 ghost use Rattle.rules.specs.Cursor.{start as start·rule, step_in, step as step·rule, set_at, set_value};

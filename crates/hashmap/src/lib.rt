@@ -1,4 +1,6 @@
 // The table of fixed size: two lent slices and a record by value. Every call is defined for any slices and any record.
+#![tactic(auto)]
+
 ghost use Rattle.std.specs.Prelude.{◌≡◌};
 ghost use Rattle.rules.specs.Calls.{find_in, remove_in, find as find·rule, remove as remove·rule, insert as insert·rule};
 ghost use Rattle.cells.specs.Layout.{null, view, value_in, counts_of, lent, done_by, left_by, Shaped};

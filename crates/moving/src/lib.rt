@@ -1,4 +1,6 @@
 // Internal: the live cells of a table go over into a cleared one. A plain move and a growing table call this.
+#![tactic(auto)]
+
 ghost use Rattle.std.specs.Prelude.{true, List, ◌≡◌, ℕ, ◌+◌, ◌*◌, ◌<◌, ◌≤◌, length};
 ghost use Rattle.rules.specs.Sizes.{is_size};
 ghost use Rattle.rules.specs.Moves.{move_cells, move_all, move_end};

@@ -1,0 +1,9 @@
+-- `forms::words::named` meets its contract. Assumes nothing.
+use Rattle.std.proofs.Common.{◌-◌, rules}
+use Rattle.forms.proofs.words.named.Given as goal
+
+abbrev pub invariant-loop-i : goal.invariant-loop-i
+invariant-loop-i l = Unit {0}
+
+abbrev pub decreases-loop-i : goal.decreases-loop-i
+decreases-loop-i l = 6 - l.i

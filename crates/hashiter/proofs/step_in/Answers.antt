@@ -1,0 +1,18 @@
+-- `hashiter::step_in` meets its contract: from i on a step says what it says from the position given. Assumes nothing.
+use borrow.Author.Rules.{rules}
+use Prim.Native.Nat.{◌-◌}
+use native.Mathlib.Omega.{arith}
+use Rattle.hashiter.proofs.Stepping.{Going, going_start, going_live, going_past, going_end}
+use Rattle.hashiter.proofs.step_in.Goals as goal
+
+pub loop-i-init : goal.loop-i-init
+loop-i-init c = going_start _ _ _
+
+pub returns-then-is_live : goal.returns-then-is_live
+returns-then-is_live c = going_live c.loop-i.invariant (omega arith) c.is_live.ensures c.if-is_live.true c.key_at-key.ensures c.value_at-value.ensures
+
+pub loop-i-preserved : goal.loop-i-preserved
+loop-i-preserved c = going_past c.loop-i.invariant (omega arith) c.is_live.ensures c.if-is_live.false
+
+pub returns : goal.returns
+returns c = going_end c.loop-i.invariant (omega arith)
