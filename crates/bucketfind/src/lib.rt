@@ -1,5 +1,7 @@
 // find over a lent slice of buckets, the Rust's own shape. Its answer is that of hashmap::find on two flat slices that hold the same
 // buckets. Three functions touch the slice: bucket_at, find_in and find. All others are on values.
+#![tactic(auto)]
+
 ghost use Rattle.std.specs.Prelude.{◌≡◌, ◌+◌, ◌*◌, ◌/◌, ◌%◌, true, ◌&&◌, [], length, nat_le};
 ghost use Rattle.hashers.specs.Keys.{hash_of};
 ghost use Rattle.rules.specs.Sizes.{is_size};

@@ -1,5 +1,7 @@
 // The checker: whether a lent table is sound. It reads each chain once, up to its first stranger, and walks to each taken
 // cell by the cell's own hash and key, so it needs no memory of its own.
+#![tactic(auto)]
+
 ghost use Rattle.std.specs.Prelude.{◌≡◌, ◌+◌, ◌-◌, ◌*◌, ◌<◌, true, length, slice_index};
 ghost use Rattle.rules.specs.Sizes.{is_size};
 ghost use Rattle.rules.specs.Sound.{one};

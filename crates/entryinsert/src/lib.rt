@@ -1,5 +1,7 @@
 // The calls of an entry that insert: a Vacant entry's, and those that serve either case. Every call is defined for any slices, any
 // record and any entry.
+#![tactic(auto)]
+
 mod giving;
 mod vacant;
 

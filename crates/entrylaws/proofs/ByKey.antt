@@ -62,22 +62,37 @@ module _ (l : Lent) (sized : Sized l) (s : SoundTable l) (e : Entry) (a : Action
   reads_says : (b : Action) (t : State) → Reads b → says_by b t ≡ finds t
   reads_says reading t r = refl
   reads_says (keeping v) t r = refl
+  reads_says Rattle.rules.specs.Entries.removing t r = elim r [ ]
+  reads_says (replacing _) t r = elim r [ ]
+  reads_says (inserting _) t r = elim r [ ]
 
   reads_leaves : (b : Action) (t : State) → Reads b → leaves_by b t ≡ t
   reads_leaves reading t r = refl
   reads_leaves (keeping v) t r = refl
+  reads_leaves Rattle.rules.specs.Entries.removing t r = elim r [ ]
+  reads_leaves (replacing _) t r = elim r [ ]
+  reads_leaves (inserting _) t r = elim r [ ]
 
   puts_says : (b : Action) (v : ℕ) (t : State) → Puts b v → says_by b t ≡ inserts t
   puts_says (replacing x) v t p = refl
   puts_says (inserting x) v t p = refl
+  puts_says reading v t p = elim p [ ]
+  puts_says Rattle.rules.specs.Entries.removing v t p = elim p [ ]
+  puts_says (keeping _) v t p = elim p [ ]
 
   puts_leaves : (b : Action) (v : ℕ) (t : State) → Puts b v → leaves_by b t ≡ live_cell v
   puts_leaves (replacing x) v t p = ap live_cell p
   puts_leaves (inserting x) v t p = ap live_cell p
+  puts_leaves reading v t p = elim p [ ]
+  puts_leaves Rattle.rules.specs.Entries.removing v t p = elim p [ ]
+  puts_leaves (keeping _) v t p = elim p [ ]
 
   puts_offer : (b : Action) (v : ℕ) → Puts b v → offers l.params.null b ≡ offers l.params.null (inserting v)
   puts_offer (replacing x) v p = rw p
   puts_offer (inserting x) v p = rw p
+  puts_offer reading v p = elim p [ ]
+  puts_offer Rattle.rules.specs.Entries.removing v p = elim p [ ]
+  puts_offer (keeping _) v p = elim p [ ]
 
   -- it says what its key's state calls for
   pub use_says : Unrefused (use_entry l e a).said → (use_entry l e a).said ≡ says_by a (state_of l e.key)

@@ -78,6 +78,9 @@ module _ (l : Lent) (e : Entry) (v : ℕ) (nn : v ≢ l.params.null) where
 puts_value : (null : ℕ) (a : Action) (v : ℕ) → Puts a v → offers null a ≡ 0 → v ≢ null
 puts_value null (replacing x) v p o = offered_passes null v (rw p at o)
 puts_value null (inserting x) v p o = offered_passes null v (rw p at o)
+puts_value null reading v p o = elim p [ ]
+puts_value null Rattle.rules.specs.Entries.removing v p o = elim p [ ]
+puts_value null (keeping _) v p o = elim p [ ]
 
 -- after a use that put a value under the key, the entry handed back is not out of date
 pub handed_live : (l : Lent) (e : Entry) (a : Action) (v : ℕ) → Puts a v → Unrefused (use_entry l e a).said → HandedLive l e (use_entry l e a)
@@ -89,6 +92,9 @@ handed_live l e a v p = go _ (use_way l e a)
     reads_not : (b : Action) → ways.Reads b → Puts b v → ⊥
     reads_not reading r x = x
     reads_not (keeping w) r x = x
+    reads_not Rattle.rules.specs.Entries.removing r x = elim r [ ]
+    reads_not (replacing _) r x = elim r [ ]
+    reads_not (inserting _) r x = elim r [ ]
 
     same : (b : Action) (w : ℕ) → Puts b v → b ≡ replacing w → w ≡ v
     same b w x q = subst (λ (c : Action). Puts c v) q x

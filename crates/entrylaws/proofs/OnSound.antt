@@ -94,6 +94,9 @@ module _ (l : Lent) (sized : Sized l) (s : SoundTable l) (e : Entry) where
   unfolding insert
   past_insert (replacing v) w p q = rw (← q, use_shaped l e.place p.shape, p.offer, p.hash)
   past_insert (inserting v) w p q = rw (← q, use_shaped l e.place p.shape, p.offer, p.hash)
+  past_insert removing w p q = elim q [ ]
+  past_insert Rattle.rules.specs.Entries.reading w p q = elim q [ ]
+  past_insert (Rattle.rules.specs.Entries.keeping _) w p q = elim q [ ]
 
   -- replacing by an Occupied entry is an insert with its key
   pub sound_replaces : (i v : ℕ) → Usable l e (replacing v) i → replace_by l e v ≡ uncounted (insert l e.key v)

@@ -53,6 +53,9 @@ module _ (l : Lent) (e : Entry) (a : Action) where
 reads_own : (i : ℕ) (a : Action) → Reads a → OtherCase (occupied i) a → ⊥
 reads_own i reading x y = y
 reads_own i (keeping v) x y = y
+reads_own i Rattle.rules.specs.Entries.removing x y = elim x [ ]
+reads_own i (inserting _) x y = elim x [ ]
+reads_own i (Rattle.rules.specs.Entries.replacing _) x y = elim x [ ]
 
 module _ (l : Lent) (e : Entry) (a : Action) where
   says_stale : (o : Outcome) → UseWay l e a o → o.said ≡ refused 7 [] → Past l e a × StaleWhen l e a

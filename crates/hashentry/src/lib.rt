@@ -1,6 +1,8 @@
 // Entries: a key with its hash and its cell, made from a key and used at once or late, over the lent slices and the record. The
 // calls that insert are in entryinsert.
 // Every call is defined for any slices, any record and any entry.
+#![tactic(auto)]
+
 mod making;
 mod occupied;
 

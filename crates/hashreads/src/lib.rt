@@ -1,5 +1,7 @@
 // What else is asked of a table: counts, and lookups that ask less than find or hand back more. Every call is defined for any slices
 // and any record.
+#![tactic(auto)]
+
 ghost use Rattle.std.specs.Prelude.{◌≡◌, eqb};
 ghost use Rattle.rules.specs.Calls.{find as find·rule};
 ghost use Rattle.cells.specs.Layout.{lent};

@@ -1,4 +1,6 @@
 // The plain move: the live cells of a table go over into one lent table of any allowed size.
+#![tactic(auto)]
+
 ghost use Rattle.std.specs.Prelude.{true, List, ◌≡◌, ℕ, ◌*◌, ◌≤◌, length};
 ghost use Rattle.rules.specs.Sizes.{is_size};
 ghost use Rattle.rules.specs.Moves.{move_all, move_end};

@@ -1,5 +1,7 @@
 // A growing table lies in the front of one of two lent halves of C cells each. Here are its record, and its parts: the front of the
 // half in use. Every call is defined for any slices and any record.
+#![tactic(auto)]
+
 pub mod internal;
 mod record;
 mod used;

@@ -1,4 +1,6 @@
 // Internal: the sample that follows Full, the first size to try, and that size as the Rust computes it.
+#![tactic(auto)]
+
 ghost use Rattle.std.specs.Prelude.{◌≡◌, ℕ, ◌+◌, ◌*◌, ◌^◌, ◌<◌, ◌≤◌, max, true, List, length};
 ghost use Rattle.std.specs.Float.Ieee.{to_unsigned};
 ghost use Rattle.hashers.specs.declared.Hasher.{Hasher};

@@ -1,0 +1,18 @@
+-- `checker::is_sound` meets its contract: the cells passed so far pass the test, and their live ones are counted. Assumes nothing.
+use Rattle.std.proofs.Common.{◌≡◌, ◌-◌, ◌≤◌, true, sym, ◌∙◌, arith, rules}
+use borrow.Author.Tests.{not-true, not-false}
+use Rattle.rules.specs.Cells.{is_live}
+use Rattle.rules.specs.Sound.{count}
+use Rattle.steps.proofs.Sizes.{size_greatest}
+use Rattle.cells.specs.Layout.{view, value_in, live_in, params_of, counts_of}
+use Rattle.cells.proofs.Shapes.{words_hold}
+use Rattle.checker.specs.Check.{all, cell_test}
+use Rattle.checker.proofs.Counting.{all_none, all_more, count_none, count_more, one_most, sound_fails, sound_counts}
+use Rattle.checker.proofs.is_sound.Given as goal
+
+abbrev pub invariant-loop-i : goal.invariant-loop-i
+invariant-loop-i l =
+    (l.i ≤ l.size) × (l.seen ≤ l.i) × (all (cell_test (params_of l.size l.hasher) (view l.words l.deltas) (value_in l.words)) l.i ≡ true) × (l.seen ≡ count (is_live (params_of l.size l.hasher) (view l.words l.deltas) (value_in l.words)) l.i)
+
+abbrev pub decreases-loop-i : goal.decreases-loop-i
+decreases-loop-i l = l.size - l.i

@@ -1,0 +1,23 @@
+-- `hashreads::contains_key` meets its contract. Assumes nothing.
+use borrow.Author.Rules.{rules}
+use mathlib.Core.Path.{sym, ap, ◌∙◌}
+use Rattle.rules.specs.Answers.{Answer}
+use Rattle.hashmap.specs.Answers.{find_said}
+use Rattle.hashreads.specs.Answers.{contains}
+use Rattle.hashmap.specs.declared.FindSaid.{FindSaid}
+use Rattle.hashreads.proofs.contains_key.Goals as goal
+
+pub returns-in-Found : goal.returns-in-Found
+returns-in-Found c = sym (ap (λ (s : FindSaid). contains (find_said s)) c.in-Found.is) ∙ ap (λ (a : Answer). contains a.said) c.find-said.ensures
+
+pub returns-in-Absent : goal.returns-in-Absent
+returns-in-Absent c = sym (ap (λ (s : FindSaid). contains (find_said s)) c.in-Absent.is) ∙ ap (λ (a : Answer). contains a.said) c.find-said.ensures
+
+pub returns-in-Shape : goal.returns-in-Shape
+returns-in-Shape c = sym (ap (λ (s : FindSaid). contains (find_said s)) c.in-Shape.is) ∙ ap (λ (a : Answer). contains a.said) c.find-said.ensures
+
+pub returns-in-ZeroHash : goal.returns-in-ZeroHash
+returns-in-ZeroHash c = sym (ap (λ (s : FindSaid). contains (find_said s)) c.in-ZeroHash.is) ∙ ap (λ (a : Answer). contains a.said) c.find-said.ensures
+
+pub returns-in-Broken : goal.returns-in-Broken
+returns-in-Broken c = sym (ap (λ (s : FindSaid). contains (find_said s)) c.in-Broken.is) ∙ ap (λ (a : Answer). contains a.said) c.find-said.ensures
