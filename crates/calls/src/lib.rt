@@ -1,4 +1,6 @@
 // The calls on a table of fixed size as requests: kinds 16 to 31.
+#![tactic(auto)]
+
 use checker::CheckSaid;
 use forms::told::Told;
 use forms::{Request, kinds, said, told};

@@ -1,5 +1,7 @@
 // The cursor, setting and entries as requests: kinds 64 to 79. A cursor and an entry are held between requests, so that an
 // entry can be used late.
+#![tactic(auto)]
+
 mod entry;
 mod insert;
 

@@ -1,5 +1,7 @@
 // The two halves: a growing table lies in the front of one of two lent halves of C cells each, and its record says where.
 // Every call is defined for any slices and any record.
+#![tactic(auto)]
+
 ghost use Rattle.std.specs.Prelude.{◌≡◌, ◌*◌, take};
 ghost use Rattle.rules.specs.Calls.{find as find·rule, remove as remove·rule};
 ghost use Rattle.rules.specs.Growing.{in_use};
