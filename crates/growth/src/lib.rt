@@ -1,4 +1,6 @@
 // The insert that grows: after Full the table moves into the other half, at the sizes that document 01 names.
+#![tactic(auto)]
+
 ghost use Rattle.std.specs.Prelude.{false, List, [], ◌≡◌, ℕ};
 ghost use Rattle.hashers.specs.declared.Hasher.{Hasher as Hash};
 ghost use Rattle.rules.specs.Moves.{stays, cleared};
