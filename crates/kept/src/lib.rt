@@ -1,4 +1,6 @@
 // What is kept between requests, the requests that change that alone or forge memory, and buckets out and in.
+#![tactic(auto)]
+
 pub mod bucket;
 pub mod forge;
 pub mod show;

@@ -18,12 +18,12 @@ turn-turned-requires c = sides _ _ _ _ _ _ _ _ _ _ _ _ _ _ _ _ _ _ c.loop-to.inv
 pub said_by-requires : goal.said_by-requires
 said_by-requires c =
     still _ _ _ _ _ _ _ _ _ _ _ _ _ _ _ _ _ _ c.loop-to.invariant _ c.turn-turned.result.end refl c.turn-turned.ensures
-    (λ T q. ⊎_elim (λ e. omega arith) (λ e. ⊎_elim (λ e. omega arith) (λ e. omega arith) e) (rw q at c.in_default.keys2))
+    c.in_default.not-Moved
 
 pub returns-in_default : goal.returns-in_default
 returns-in_default c =
     stops _ _ _ _ _ _ _ _ _ _ _ _ _ _ _ _ _ _ c.loop-to.invariant _ c.turn-turned.result.end refl c.turn-turned.ensures
-    (λ T q. ⊎_elim (λ e. omega arith) (λ e. ⊎_elim (λ e. omega arith) (λ e. omega arith) e) (rw q at c.in_default.keys2)) _ c.said_by.ensures
+    c.in_default.not-Moved _ c.said_by.ensures
 
 pub overflow_add-moves : goal.overflow_add-moves
 overflow_add-moves c = let f = few _ _ _ _ _ _ _ _ _ _ _ _ _ _ _ _ _ _ c.loop-to.invariant in omega arith
@@ -34,4 +34,4 @@ loop-to-smaller c = let f = few _ _ _ _ _ _ _ _ _ _ _ _ _ _ _ _ _ _ c.loop-to.in
 pub loop-to-preserved : goal.loop-to-preserved
 loop-to-preserved c =
     let k = c.turn-turned.auto in
-    goes_on _ _ _ _ _ _ _ _ _ _ _ _ _ _ _ _ _ _ c.loop-to.invariant _ c.turn-turned.result.end refl c.turn-turned.ensures c.in-Moved.to c.in-Moved.is k.1.0 k.1.1.0 k.1.1.1.0 k.1.1.1.1.0 _ c.other-half.ensures
+    goes_on _ _ _ _ _ _ _ _ _ _ _ _ _ _ _ _ _ _ c.loop-to.invariant _ c.turn-turned.result.end refl c.turn-turned.ensures c.in-Moved.to c.in-Moved.is k.lower_words k.lower_deltas k.upper_words k.upper_deltas _ c.other-half.ensures

@@ -9,7 +9,7 @@ use Rattle.growth.proofs.one_round.Goals as goal
 pub returns-in_default : goal.returns-in_default
 returns-in_default c =
     round_answered c.args.cells c.args.size c.args.live c.args.hash c.args.key c.args.value c.args.words.now c.args.deltas.now c.args.spare_words.now c.args.spare_deltas.now c.insert_stored-done.result _ _ c.insert_stored-done.ensures.done
-    (λ at q. ⊎_elim (λ e. omega arith) (λ e. ⊎_elim (λ e. omega arith) (λ e. ⊎_elim (λ e. omega arith) (λ e. ⊎_elim (λ e. omega arith) (λ e. ⊎_elim (λ e. omega arith) (λ e. ⊎_elim (λ e. omega arith) (λ e. omega arith) e) e) e) e) e) (rw q at c.in_default.keys2))
+    c.in_default.not-Full
 
 pub after_full-requires : goal.after_full-requires
 after_full-requires c =
@@ -19,8 +19,8 @@ after_full-requires c =
       size = p.size;
       most = p.most;
       cells_size = p.cells_size;
-      words = k.0 ∙ p.words;
-      deltas = k.1.0 ∙ p.deltas;
+      words = k.words ∙ p.words;
+      deltas = k.deltas ∙ p.deltas;
       spare_words_length = p.spare_words_length;
       spare_deltas_length = p.spare_deltas_length;
     }

@@ -26,7 +26,7 @@ pub loop-to-smaller : goal.loop-to-smaller
 loop-to-smaller c = let g = grows c.loop-to.to c.loop-to.invariant.power in omega arith
 
 pub loop-to-preserved : goal.loop-to-preserved
-loop-to-preserved c = again _ _ _ _ _ _ _ c.loop-to.to _ _ c.loop-to.invariant c.loop-to-test.true _ _ c.move_into-end.result c.in-Full.field-0 c.in-Full.is c.move_into-end.ensures c.move_into-end.auto.1.1.1.0 c.move_into-end.auto.1.1.1.1.0 _ refl
+loop-to-preserved c = again _ _ _ _ _ _ _ c.loop-to.to _ _ c.loop-to.invariant c.loop-to-test.true _ _ c.move_into-end.result c.in-Full.field-0 c.in-Full.is c.move_into-end.ensures c.move_into-end.auto.words c.move_into-end.auto.deltas _ refl
 
 pub returns : goal.returns
 returns c = over _ _ _ _ _ _ _ c.loop-to.to _ _ c.loop-to.invariant c.loop-to-test.false
