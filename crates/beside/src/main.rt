@@ -1,5 +1,7 @@
 // Runs the lookup over a slice of buckets beside find on the two flat slices that hold the same buckets: tables of eight cells that are made by
 // calls, and forged ones. Prints find's answer for each key, and whether the lookup over the buckets says the same.
+#![tactic(auto)]
+
 ghost use Rattle.std.specs.Prelude.{◌≡◌, [], ◌∷◌};
 ghost use Rattle.rules.specs.Calls.{find as find·rule};
 ghost use Rattle.hashmap.specs.Answers.{find_answer};

@@ -1,5 +1,7 @@
 // Runs worked example 11 of document 01 and the second sentence of example 8, and prints each answer of a growing table with where the
 // table is afterwards. The file stdout beside src/ is written from document 01.
+#![tactic(auto)]
+
 use growth::{GrowAnswer, GrowSaid};
 use halves::{ClearHalvesSaid, FindSaid, RemoveSaid};
 use hashers::Hasher;

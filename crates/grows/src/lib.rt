@@ -1,5 +1,7 @@
 // Moves and growing tables as requests: kinds 48 to 63. The lower half is what is lent of the table's arrays, the upper half
 // what is lent of the spare ones; for a plain move they are the table and the destination.
+#![tactic(auto)]
+
 mod answers;
 
 use cells::Table;

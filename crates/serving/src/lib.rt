@@ -1,5 +1,7 @@
 // Serves requests on a lent table: what the programs `answers` and `replay` share. A request is served in four steps: what
 // is kept between requests, the call, the record that it left, and the answer with a digest.
+#![tactic(auto)]
+
 mod growing;
 mod held;
 pub mod lines;

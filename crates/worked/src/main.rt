@@ -1,6 +1,8 @@
 // Runs the worked examples 1 to 7, 9 and 10 of document 01, and pairs of runs in two orders, and prints each answer with the
 // cells looked at.
 // The file stdout beside src/ is written from document 01.
+#![tactic(auto)]
+
 use hashers::Hasher;
 use hashmap::{ClearSaid, FindSaid, InsertSaid, RemoveSaid, Table};
 

@@ -1,0 +1,15 @@
+-- `worked::fill` keeps the slices' lengths. Assumes nothing.
+use borrow.Author.Rules.{rules}
+use mathlib.Core.Path.{◌≡◌, ◌∙◌}
+use Prim.Native.Nat.{◌-◌}
+use lib.ListN.{length}
+use Rattle.worked.proofs.fill.Goals as goal
+
+pub loop-j-preserved : goal.loop-j-preserved
+loop-j-preserved c = (c.insert-next.auto.0 ∙ c.loop-j.invariant.0, c.insert-next.auto.1.0 ∙ c.loop-j.invariant.1)
+
+pub shape_of-words : goal.shape_of-words
+shape_of-words c = c.loop-j.invariant.0
+
+pub shape_of-deltas : goal.shape_of-deltas
+shape_of-deltas c = c.loop-j.invariant.1
