@@ -6,7 +6,7 @@ pub loop-j-preserved : goal.loop-j-preserved
 loop-j-preserved c =
     let k = c.insert-now.auto in
     let i = c.loop-j.invariant in
-    (k.0 ∙ i.0, k.1.0 ∙ i.1, k.1.1.0 ∙ i.2, k.1.1.1.0 ∙ i.3)
+    (k.lower_words ∙ i.0, k.lower_deltas ∙ i.1, k.upper_words ∙ i.2, k.upper_deltas ∙ i.3)
 
 pub shape_of-lower_words : goal.shape_of-lower_words
 shape_of-lower_words c = c.loop-j.invariant.0

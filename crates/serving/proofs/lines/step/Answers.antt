@@ -3,4 +3,4 @@ use Rattle.std.proofs.Common.{rules}
 use Rattle.serving.proofs.lines.step.Goals as goal
 
 pub shape_of-input-then-reader : goal.shape_of-input-then-reader
-shape_of-input-then-reader c = c.next-reader.auto.0
+shape_of-input-then-reader c = c.next-reader.auto.input
