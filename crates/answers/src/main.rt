@@ -1,6 +1,8 @@
 // Reads requests from standard input and writes each answer to standard output. compare/README.md says which there are.
 // Input that starts with a byte 0 is in the compact form, 40 bytes a request and 72 an answer. Any other input is text,
 // a request on each line.
+#![tactic(auto)]
+
 use forms::bytes;
 use forms::line::write_part;
 use kept::State;

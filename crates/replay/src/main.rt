@@ -1,6 +1,8 @@
 // Replays recorded requests from standard input, holds each answer to the one that stands behind the request, and writes
 // how many requests there were and how many answers differ. compare/record writes the file stdin beside src/: the answers
 // are those of the Rust or, off its domain, of the model of document 01.
+#![tactic(auto)]
+
 use serving::lines;
 
 // Standard input.
