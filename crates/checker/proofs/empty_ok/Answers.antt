@@ -1,5 +1,5 @@
 -- `checker::empty_ok` meets its contract. Assumes nothing.
-use Rattle.std.proofs.Common.{sym, ◌∙◌, rules, eq-eqb, ne_eqb}
+use Rattle.std.proofs.Common.{sym, ◌∙◌, eq-eqb, ne_eqb}
 use Rattle.cells.proofs.Shapes.{deltas_hold}
 use Rattle.checker.specs.Check.{empty_test}
 use Rattle.checker.proofs.empty_ok.Goals as goal

@@ -1,5 +1,5 @@
 -- `checker::home_ok` meets its contract. Assumes nothing.
-use Rattle.std.proofs.Common.{sym, ◌∙◌, rules, eq-eqb, ne_eqb}
+use Rattle.std.proofs.Common.{sym, ◌∙◌, eq-eqb, ne_eqb}
 use Rattle.checker.proofs.home_ok.Goals as goal
 
 pub returns-then-cell_of-i : goal.returns-then-cell_of-i

@@ -1,5 +1,4 @@
 -- `moving::totalled` meets its contract. Assumes nothing.
-use borrow.Author.Rules.{rules}
 use Rattle.moving.proofs.Into.{total_live, total_other}
 use Rattle.moving.proofs.totalled.Goals as goal
 

@@ -1,5 +1,4 @@
 -- `util::load_u64_le` meets its contract. Assumes nothing.
-use borrow.Author.Rules.{rules}
 use borrow.Author.Tests.{le-leb, lt-leb}
 use Rattle.util.specs.Bytes.{load}
 use Rattle.util.proofs.load_u64_le.Goals as goal

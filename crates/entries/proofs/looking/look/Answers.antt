@@ -1,5 +1,4 @@
 -- `entries::looking::look` meets its contract. Assumes nothing.
-use borrow.Author.Rules.{rules}
 use mathlib.Core.Path.{sym, ap, ◌∙◌}
 use Rattle.entries.specs.Workers.{other_hash, not_occupied, lost, gone}
 use Rattle.entries.specs.Answers.{place_of}
