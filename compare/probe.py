@@ -1,5 +1,5 @@
-"""Builds exports over copies of the crates, in a temporary folder: what machine-code and the benches look at."""
-import os, shutil, subprocess, sys
+"""Copies crates into a folder of their own, and builds exports over them: what slow, machine-code and the benches look at."""
+import glob, os, shutil, subprocess, sys, time
 
 TOP = os.path.dirname(os.path.dirname(os.path.abspath(__file__)))
 
@@ -13,26 +13,40 @@ def needed(lines, wanted):
             left += lines[name].split()
     return [name for name in lines if name in found]
 
-def build(room, source, wanted, proofs=None):
-    """The archive of the exports in the file compare/SOURCE, which use the wanted crates. A loop needs a proof: PROOFS is a
-    folder with FUNCTION.antt.txt for each. What is proved here already is not proved again."""
+def copied(room, wanted, more=''):
+    """Copies the sources and proofs of these crates and of those below them, with a crates.txt for them and a line more. Their
+    names. What is proved here already is not proved again: rt begins with what checks of the same text kept on this machine."""
     lines = dict(line.strip().split(':', 1) for line in open(f'{TOP}/crates.txt') if ':' in line and not line.startswith('#'))
     crates = needed(lines, wanted)
     with open(f'{room}/crates.txt', 'w') as out:
         for name in crates:
-            shutil.copytree(f'{TOP}/crates/{name}', f'{room}/crates/{name}')
+            for part in 'src', 'specs', 'proofs':
+                if os.path.isdir(f'{TOP}/crates/{name}/{part}'):
+                    shutil.copytree(f'{TOP}/crates/{name}/{part}', f'{room}/crates/{name}/{part}')
             out.write(f'{name}:{lines[name]}\n')
-        out.write('probe: ' + ' '.join(crates) + '\n')
+        out.write(more.format(' '.join(crates)))
+    return crates
+
+def from_nothing(folder):
+    """Has the next check of a copied crate prove it from nothing: its text is another than what checks here kept, by a last
+    line, and what is kept in its own folder, which comes next, is nothing."""
+    for root in glob.glob(f'{folder}/src/lib.rt') + glob.glob(f'{folder}/src/main.rt'):
+        with open(root, 'a') as out:
+            out.write(f'\n// {time.time_ns()}\n')
+    os.makedirs(f'{folder}/out/incremental')
+
+def build(room, source, wanted, proofs=None):
+    """The archive of the exports in the file compare/SOURCE, which use the wanted crates. A loop needs a proof: PROOFS is a
+    folder with FUNCTION.FILE.antt.txt for each file of proofs/FUNCTION."""
+    copied(room, wanted, 'probe staticlib: {}\n')
     os.makedirs(f'{room}/crates/probe/src')
     shutil.copy(f'{TOP}/compare/{source}', f'{room}/crates/probe/src/lib.rt')
     for name in os.listdir(proofs) if proofs else []:
-        folder = f'{room}/crates/probe/proofs/' + name.split('.')[0]
-        os.makedirs(folder)
-        shutil.copy(f'{proofs}/{name}', f'{folder}/Proof.antt')
-    if os.path.isdir(f'{TOP}/target/stamp'):
-        for part in ['log', 'obj', 'rlib', 'stamp']:
-            shutil.copytree(f'{TOP}/target/{part}', f'{room}/target/{part}')
-    built = subprocess.run(['rt', 'staticlib', 'probe'], cwd=room, capture_output=True, text=True)
+        function, file = name.split('.')[:2]
+        folder = f'{room}/crates/probe/proofs/{function}'
+        os.makedirs(folder, exist_ok=True)
+        shutil.copy(f'{proofs}/{name}', f'{folder}/{file}.antt')
+    built = subprocess.run(['rt', 'lib'], cwd=f'{room}/crates/probe', capture_output=True, text=True)
     if built.returncode:
         sys.exit(built.stdout[-4000:] + built.stderr[-4000:])
-    return f'{room}/target/staticlib/libprobe.a'
+    return f'{room}/crates/probe/out/libprobe.a'

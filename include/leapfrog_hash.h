@@ -1,8 +1,8 @@
 /* The three hashers of the field table, for C and C++.
  *
- * Link with libhashers.a, an archive for x86-64 Linux that `rt staticlib hashers` writes to
- * target/staticlib/. Each function reads the bytes and nothing else, writes nothing, keeps no
- * state, and always returns.
+ * Link with libhashers.a, an archive for x86-64 Linux: compare/archive runs `rt lib` in
+ * crates/hashers_c and copies what it builds to target/staticlib/. Each function reads the bytes
+ * and nothing else, writes nothing, keeps no state, and always returns.
  *
  * `bytes` points to `length` bytes that can be read, and that nobody writes before the call
  * returns. Where `length` is 0 nothing is read, and `bytes` may be a null pointer. No object is

@@ -1,4 +1,4 @@
-// The hashers of lib.rs: which there are, the hash of a key, and the exports for C.
+// The hashers of lib.rs: which there are, the hash of a key, and the hash of bytes, which hashers_c exports for C.
 #![tactic(auto)]
 
 mod fnv;
@@ -32,9 +32,8 @@ pub fn hash_of(hasher: Hasher, key: u64) -> u64
     }
 }
 
-// For C: bytes by pointer and length, the hash from the starting state; 0 where 8 would be given.
-#[unsafe(no_mangle)]
-pub extern "C" fn leapfrog_hash_simple(bytes: &[u8]) -> u64
+// The hash of bytes from the starting state, as C is given it (hashers_c); 0 where 8 would be given.
+pub fn leapfrog_hash_simple(bytes: &[u8]) -> u64
     ensures { result ≡ simple_c bytes.now }
 {
     match SimpleHasher::START.write(bytes) {
@@ -43,8 +42,7 @@ pub extern "C" fn leapfrog_hash_simple(bytes: &[u8]) -> u64
     }
 }
 
-#[unsafe(no_mangle)]
-pub extern "C" fn leapfrog_hash_murmur(bytes: &[u8]) -> u64
+pub fn leapfrog_hash_murmur(bytes: &[u8]) -> u64
     ensures { result ≡ murmur_c bytes.now }
 {
     match MurmurHasher::START.write(bytes) {
@@ -53,8 +51,7 @@ pub extern "C" fn leapfrog_hash_murmur(bytes: &[u8]) -> u64
     }
 }
 
-#[unsafe(no_mangle)]
-pub extern "C" fn leapfrog_hash_fnv(bytes: &[u8]) -> u64
+pub fn leapfrog_hash_fnv(bytes: &[u8]) -> u64
     ensures { result ≡ fnv_c bytes.now }
 {
     FnvHasher::START.write(bytes).0
