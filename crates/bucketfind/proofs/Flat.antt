@@ -5,7 +5,6 @@ use lib.ListN.{get_or-append}
 use Rattle.rules.specs.Sizes.{is_size}
 use Rattle.cells.specs.Layout.{size_in, is_shaped, params_of, counts_of, hash_in, key_in, value_in, first_at, second_at, lent}
 use Rattle.cells.specs.declared.Table.{Table}
-use Rattle.cells.proofs.Shapes.{shaped}
 use Rattle.buckets.specs.Buckets.{delta_in, cell_in}
 use Rattle.buckets.specs.declared.Bucket.{Bucket}
 use Rattle.buckets.proofs.Lists.{get_d_listed}

@@ -22,7 +22,6 @@ use Rattle.moving.proofs.Held.{held_changed, words_kept, deltas_kept}
 use Rattle.sound.specs.State.{after}
 use Rattle.parts.specs.Halves.{half_of, of_half, are_halves, lent_halves}
 use Rattle.halves.specs.Answers.{four, in_lower, in_upper, halves_by}
-use Rattle.parts.specs.declared.Half.{Half}
 use Rattle.parts.specs.declared.Growing.{Growing}
 use Rattle.parts.proofs.Checks.{halves_hold}
 use Rattle.growthlaws.proofs.Checks.{passed_shaped, passed_size, passed_most}

@@ -1,5 +1,5 @@
 -- The checker's reading of a chain, link by link. Assumes nothing.
-use Rattle.std.proofs.Common.{◌≡◌, ℕ, zero, suc, ◌+◌, ◌-◌, ◌%◌, ◌<◌, true, false, sym, ap, ◌∙◌, mod-eq_of_lt, eq-eqb, ne_eqb}
+use Rattle.std.proofs.Common.{◌≡◌, ℕ, zero, suc, ◌+◌, ◌%◌, ◌<◌, true, false, sym, ap, ◌∙◌, mod-eq_of_lt, eq-eqb, ne_eqb}
 use Rattle.rules.specs.Sizes.{is_size}
 use Rattle.rules.specs.Cells.{Cells}
 use Rattle.rules.specs.Walk.{on}

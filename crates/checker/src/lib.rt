@@ -89,6 +89,7 @@ fn met_itself(words: &[u64], deltas: &[u8], size: usize, i: usize) -> bool
 }
 
 // What is asked of cell i where it is not taken.
+#[tactic(auto, unfolding(crate::specs::Check::empty_test))]
 fn empty_ok(words: &[u64], deltas: &[u8], size: usize, i: usize) -> bool
     requires { Shaped size words.now deltas.now × (i < size) }
     ensures { result ≡ empty_test null (view words.now deltas.now) (value_in words.now) i }
@@ -106,6 +107,7 @@ fn empty_ok(words: &[u64], deltas: &[u8], size: usize, i: usize) -> bool
 }
 
 // A cell at its own home has second delta 0.
+#[tactic(auto, unfolding(crate::specs::Check::home_test))]
 fn home_ok(deltas: &[u8], size: usize, i: usize, hash: u64) -> bool
     requires { (is_size size ≡ true) × (second_at i < length deltas.now) }
     ensures { result ≡ home_test size i hash (slice_index deltas.now (second_at i)) }

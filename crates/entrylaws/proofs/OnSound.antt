@@ -14,7 +14,7 @@ use Rattle.rules.specs.Answers.{replaced, removed, store, settle}
 use Rattle.rules.specs.Calls.{insert, insert_stored, remove}
 use Rattle.rules.specs.Entries.{Place, occupied, Entry, Action, replacing, removing, inserting, below, use_shape, uncounted, use_entry, replace_by, remove_by}
 use Rattle.steps.proofs.Branches.{settle_replaced, stored_met, met_live}
-use Rattle.sound.specs.State.{live_cell, state_of, SoundTable, Sized, inserts, removes}
+use Rattle.sound.specs.State.{live_cell, state_of, SoundTable, Sized}
 use Rattle.sound.specs.Stops.{MetAt, Wraps}
 use Rattle.sound.proofs.Positions.{size_wraps}
 use Rattle.sound.proofs.Walks.{both_holds}

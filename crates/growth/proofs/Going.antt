@@ -28,7 +28,7 @@ use Rattle.growth.specs.Rounds as turns
 use Rattle.growth.specs.Rounds.{Halved, Sides, TurnedOn}
 use Rattle.growth.specs.Ends.{turn_said}
 use Rattle.growth.specs.Growth.{Grown, lower_of, upper_of, grew_from}
-use Rattle.growth.proofs.Turns.{round_at, rounds_from, inserted, first, moves}
+use Rattle.growth.proofs.Turns.{round_at, rounds_from, inserted, first}
 use Rattle.movelaws.proofs.Moved.{moved_live}
 use Rattle.movelaws.proofs.Fresh.{fresh_clear}
 use Rattle.growth.proofs.Still.{Ends}

@@ -1,5 +1,6 @@
 pub mod Doubling
 pub mod Tries
+pub mod Enough
 pub mod Sizes
 pub mod Rounds
 pub mod Checks

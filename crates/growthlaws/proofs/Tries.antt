@@ -156,11 +156,6 @@ module _ (C null S : ℕ) (from : Held) (c : Counts) (clear : Held) where
 pub sizes_enough : (C F : ℕ) → is_size C ≡ true → 2 ^ least_log ≤ F → C < F * 2 ^ sizes
 sizes_enough C F s l = let g = size_greatest C s in omega (arith, mul-le-mul_right (2 ^ sizes) l)
 
--- so more tries than there are sizes change nothing: the first line of `tries` says what its other lines say of a size above C
-pub more_tries : (C null S : ℕ) (from : Held) (c : Counts) (clear : Held) (F : ℕ) (spare : Became) → is_size C ≡ true → 2 ^ least_log ≤ F
-    → (more : ℕ) → sizes ≤ more → tries C null S from c clear more F spare ≡ tries C null S from c clear sizes F spare
-more_tries C null S from c clear F spare s l more u = tries_enough C null S from c clear sizes more F spare u (sizes_enough C F s l)
-
 -- where a size is tried there is one left, and enough for the next
 pub one_left : (C T left : ℕ) → T ≤ C → C < T * 2 ^ left → (n : ℕ) × (left ≡ suc n) × (C < 2 * T * 2 ^ n)
 one_left C T zero l e = absurd (omega (arith, none_further T))

@@ -13,7 +13,6 @@ use Rattle.cells.specs.Layout.{size_in, fresh_words, fresh_deltas}
 use Rattle.laws.proofs.Refusals.{remove_refused_leaves}
 use Rattle.parts.specs.Halves.{half_of, of_half, are_halves, size_fits, lent_halves}
 use Rattle.halves.specs.Answers.{Four, four, four_after, HalvesCleared, cleared, refuses, fresh_growing, clear_halves_rule, halves_by, remove_rule}
-use Rattle.parts.specs.declared.Half.{Half}
 use Rattle.parts.specs.declared.Growing.{Growing}
 
 module _ (lw ld uw ud : List ℕ) where

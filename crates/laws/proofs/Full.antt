@@ -8,7 +8,7 @@ use native.Mathlib.Omega.{arith}
 use lib.ListN.{length}
 use Rattle.rules.specs.Sizes.{window}
 use Rattle.rules.specs.Cells.{Cells, Counts, Lent}
-use Rattle.rules.specs.Walk.{met, tail, broken, walk, on}
+use Rattle.rules.specs.Walk.{met, tail, walk, on}
 use Rattle.rules.specs.Answers.{Said, refused, Change, Outcome, leave}
 use Rattle.rules.specs.Calls.{insert_seen, insert_stored, insert}
 use Rattle.laws.specs.Ways as ways

@@ -18,7 +18,7 @@ use Rattle.cells.specs.declared.insert.InsertSaid.TheVariants as says
 use Rattle.cells.specs.declared.insert.Inserted.{Inserted}
 use Rattle.laws.proofs.Within.{stored_within}
 use Rattle.moving.specs.declared.MoveEnd.{MoveEnd}
-use Rattle.moving.specs.declared.MoveEnd.TheVariants.{All, Full, Broken}
+use Rattle.moving.specs.declared.MoveEnd.TheVariants.{All}
 use Rattle.moving.specs.Slices.{held_in}
 use Rattle.moving.specs.Ends.{end_of, end_after, Placed, over, stops, placed, placed_by}
 use Rattle.moving.proofs.Held.{held_changed}

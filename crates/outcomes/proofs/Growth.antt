@@ -39,11 +39,11 @@ grow_back says.Null = refl
 grow_back says.Broken = refl
 grow_back says.NoRoom = refl
 
-pub insert_one_outcome : (lower_words_lem lower_deltas_lem upper_words_lem upper_deltas_lem : List ℕ) (growing : Growing) (key value : ℕ) (r₁ r₂ : GrowAnswer) (lower-words₁ lower-deltas₁ upper-words₁ upper-deltas₁ lower-words₂ lower-deltas₂ upper-words₂ upper-deltas₂ : List ℕ)
-    → grown_by r₁ lower-words₁ lower-deltas₁ upper-words₁ upper-deltas₁ ≡ grow_left (grow·rule (lent_halves lower_words_lem lower_deltas_lem upper_words_lem upper_deltas_lem growing) key value) growing lower_words_lem lower_deltas_lem upper_words_lem upper_deltas_lem
-    → grown_by r₂ lower-words₂ lower-deltas₂ upper-words₂ upper-deltas₂ ≡ grow_left (grow·rule (lent_halves lower_words_lem lower_deltas_lem upper_words_lem upper_deltas_lem growing) key value) growing lower_words_lem lower_deltas_lem upper_words_lem upper_deltas_lem
-    → (r₁ ≡ r₂) × (lower-words₁ ≡ lower-words₂) × (lower-deltas₁ ≡ lower-deltas₂) × (upper-words₁ ≡ upper-words₂) × (upper-deltas₁ ≡ upper-deltas₂)
-insert_one_outcome lower_words_lem lower_deltas_lem upper_words_lem upper_deltas_lem growing key value r₁ r₂ lower-words₁ lower-deltas₁ upper-words₁ upper-deltas₁ lower-words₂ lower-deltas₂ upper-words₂ upper-deltas₂ e₁ e₂ =
+pub insert_one_outcome : (lower_words lower_deltas upper_words upper_deltas : List ℕ) (growing : Growing) (key value : ℕ) (r₁ r₂ : GrowAnswer) (lower_words₁ lower_deltas₁ upper_words₁ upper_deltas₁ lower_words₂ lower_deltas₂ upper_words₂ upper_deltas₂ : List ℕ)
+    → grown_by r₁ lower_words₁ lower_deltas₁ upper_words₁ upper_deltas₁ ≡ grow_left (grow·rule (lent_halves lower_words lower_deltas upper_words upper_deltas growing) key value) growing lower_words lower_deltas upper_words upper_deltas
+    → grown_by r₂ lower_words₂ lower_deltas₂ upper_words₂ upper_deltas₂ ≡ grow_left (grow·rule (lent_halves lower_words lower_deltas upper_words upper_deltas growing) key value) growing lower_words lower_deltas upper_words upper_deltas
+    → (r₁ ≡ r₂) × (lower_words₁ ≡ lower_words₂) × (lower_deltas₁ ≡ lower_deltas₂) × (upper_words₁ ≡ upper_words₂) × (upper_deltas₁ ≡ upper_deltas₂)
+insert_one_outcome lower_words lower_deltas upper_words upper_deltas growing key value r₁ r₂ lower_words₁ lower_deltas₁ upper_words₁ upper_deltas₁ lower_words₂ lower_deltas₂ upper_words₂ upper_deltas₂ e₁ e₂ =
     let e = both e₁ e₂ in
     let s = one grow_said ungrow grow_back r₁.said r₂.said (ap (λ (y : GrownLeft). y.grown.said) e) in
     let h = one half_of unhalf half_back r₁.growing.half r₂.growing.half (ap (λ (y : GrownLeft). y.grown.half) e) in (

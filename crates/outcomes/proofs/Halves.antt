@@ -25,11 +25,11 @@ clear_back : (a : ClearHalvesSaid) → unclear (clear_halves_said a) ≡ a
 clear_back (clears.Cleared g) = refl
 clear_back clears.Shape = refl
 
-pub clear_halves_one_outcome : (lower_words_lem lower_deltas_lem upper_words_lem upper_deltas_lem : List ℕ) (size : ℕ) (hasher : Hasher) (r₁ r₂ : ClearHalvesSaid) (lower-words₁ lower-deltas₁ upper-words₁ upper-deltas₁ lower-words₂ lower-deltas₂ upper-words₂ upper-deltas₂ : List ℕ)
-    → clear_halves_left r₁ lower-words₁ lower-deltas₁ upper-words₁ upper-deltas₁ ≡ clear_halves_rule lower_words_lem lower_deltas_lem upper_words_lem upper_deltas_lem size hasher
-    → clear_halves_left r₂ lower-words₂ lower-deltas₂ upper-words₂ upper-deltas₂ ≡ clear_halves_rule lower_words_lem lower_deltas_lem upper_words_lem upper_deltas_lem size hasher
-    → (r₁ ≡ r₂) × (lower-words₁ ≡ lower-words₂) × (lower-deltas₁ ≡ lower-deltas₂) × (upper-words₁ ≡ upper-words₂) × (upper-deltas₁ ≡ upper-deltas₂)
-clear_halves_one_outcome lower_words_lem lower_deltas_lem upper_words_lem upper_deltas_lem size hasher r₁ r₂ lower-words₁ lower-deltas₁ upper-words₁ upper-deltas₁ lower-words₂ lower-deltas₂ upper-words₂ upper-deltas₂ e₁ e₂ =
+pub clear_halves_one_outcome : (lower_words lower_deltas upper_words upper_deltas : List ℕ) (size : ℕ) (hasher : Hasher) (r₁ r₂ : ClearHalvesSaid) (lower_words₁ lower_deltas₁ upper_words₁ upper_deltas₁ lower_words₂ lower_deltas₂ upper_words₂ upper_deltas₂ : List ℕ)
+    → clear_halves_left r₁ lower_words₁ lower_deltas₁ upper_words₁ upper_deltas₁ ≡ clear_halves_rule lower_words lower_deltas upper_words upper_deltas size hasher
+    → clear_halves_left r₂ lower_words₂ lower_deltas₂ upper_words₂ upper_deltas₂ ≡ clear_halves_rule lower_words lower_deltas upper_words upper_deltas size hasher
+    → (r₁ ≡ r₂) × (lower_words₁ ≡ lower_words₂) × (lower_deltas₁ ≡ lower_deltas₂) × (upper_words₁ ≡ upper_words₂) × (upper_deltas₁ ≡ upper_deltas₂)
+clear_halves_one_outcome lower_words lower_deltas upper_words upper_deltas size hasher r₁ r₂ lower_words₁ lower_deltas₁ upper_words₁ upper_deltas₁ lower_words₂ lower_deltas₂ upper_words₂ upper_deltas₂ e₁ e₂ =
     let e = both e₁ e₂ in (
       one clear_halves_said unclear clear_back r₁ r₂ (ap (λ (y : HalvesCleared). y.said) e),
       ap (λ (y : HalvesCleared). y.left.lower_words) e,
@@ -38,17 +38,17 @@ clear_halves_one_outcome lower_words_lem lower_deltas_lem upper_words_lem upper_
       ap (λ (y : HalvesCleared). y.left.upper_deltas) e,
     )
 
-pub find_one_outcome : (lower_words_lem lower_deltas_lem upper_words_lem upper_deltas_lem : List ℕ) (growing : Growing) (key : ℕ) (r₁ r₂ : FindAnswer)
-    → find_answer r₁ ≡ find·rule (in_use (lent_halves lower_words_lem lower_deltas_lem upper_words_lem upper_deltas_lem growing)) key
-    → find_answer r₂ ≡ find·rule (in_use (lent_halves lower_words_lem lower_deltas_lem upper_words_lem upper_deltas_lem growing)) key
+pub find_one_outcome : (lower_words lower_deltas upper_words upper_deltas : List ℕ) (growing : Growing) (key : ℕ) (r₁ r₂ : FindAnswer)
+    → find_answer r₁ ≡ find·rule (in_use (lent_halves lower_words lower_deltas upper_words upper_deltas growing)) key
+    → find_answer r₂ ≡ find·rule (in_use (lent_halves lower_words lower_deltas upper_words upper_deltas growing)) key
     → r₁ ≡ r₂
-find_one_outcome lower_words_lem lower_deltas_lem upper_words_lem upper_deltas_lem growing key r₁ r₂ e₁ e₂ = find_answer_one r₁ r₂ (both e₁ e₂)
+find_one_outcome lower_words lower_deltas upper_words upper_deltas growing key r₁ r₂ e₁ e₂ = find_answer_one r₁ r₂ (both e₁ e₂)
 
-pub remove_one_outcome : (lower_words_lem lower_deltas_lem upper_words_lem upper_deltas_lem : List ℕ) (growing : Growing) (key : ℕ) (r₁ r₂ : GrowingRemoveAnswer) (lower-words₁ upper-words₁ lower-words₂ upper-words₂ : List ℕ)
-    → remove_halves_left r₁ lower-words₁ lower_deltas_lem upper-words₁ upper_deltas_lem ≡ remove_rule lower_words_lem lower_deltas_lem upper_words_lem upper_deltas_lem growing key
-    → remove_halves_left r₂ lower-words₂ lower_deltas_lem upper-words₂ upper_deltas_lem ≡ remove_rule lower_words_lem lower_deltas_lem upper_words_lem upper_deltas_lem growing key
-    → (r₁ ≡ r₂) × (lower-words₁ ≡ lower-words₂) × (upper-words₁ ≡ upper-words₂)
-remove_one_outcome lower_words_lem lower_deltas_lem upper_words_lem upper_deltas_lem growing key r₁ r₂ lower-words₁ upper-words₁ lower-words₂ upper-words₂ e₁ e₂ =
+pub remove_one_outcome : (lower_words lower_deltas upper_words upper_deltas : List ℕ) (growing : Growing) (key : ℕ) (r₁ r₂ : GrowingRemoveAnswer) (lower_words₁ upper_words₁ lower_words₂ upper_words₂ : List ℕ)
+    → remove_halves_left r₁ lower_words₁ lower_deltas upper_words₁ upper_deltas ≡ remove_rule lower_words lower_deltas upper_words upper_deltas growing key
+    → remove_halves_left r₂ lower_words₂ lower_deltas upper_words₂ upper_deltas ≡ remove_rule lower_words lower_deltas upper_words upper_deltas growing key
+    → (r₁ ≡ r₂) × (lower_words₁ ≡ lower_words₂) × (upper_words₁ ≡ upper_words₂)
+remove_one_outcome lower_words lower_deltas upper_words upper_deltas growing key r₁ r₂ lower_words₁ upper_words₁ lower_words₂ upper_words₂ e₁ e₂ =
     let e = both e₁ e₂ in
     let s = remove_said_one r₁.said r₂.said (ap (λ (y : HalvesLeft). y.said) e) in (
       λ i. record { said = s i; looked = (e i).looked; growing = (e i).growing },

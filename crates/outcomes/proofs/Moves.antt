@@ -22,10 +22,10 @@ move_back Shape = refl
 move_back (Full at) = refl
 move_back Broken = refl
 
-pub move_table_one_outcome : (from-words from-deltas : List ℕ) (table : Table) (words deltas : List ℕ) (r₁ r₂ : MoveSaid) (words₁ deltas₁ words₂ deltas₂ : List ℕ)
-    → move_left r₁ words₁ deltas₁ ≡ move_rule from-words from-deltas table words deltas
-    → move_left r₂ words₂ deltas₂ ≡ move_rule from-words from-deltas table words deltas
+pub move_table_one_outcome : (from_words from_deltas : List ℕ) (table : Table) (words deltas : List ℕ) (r₁ r₂ : MoveSaid) (words₁ deltas₁ words₂ deltas₂ : List ℕ)
+    → move_left r₁ words₁ deltas₁ ≡ move_rule from_words from_deltas table words deltas
+    → move_left r₂ words₂ deltas₂ ≡ move_rule from_words from_deltas table words deltas
     → (r₁ ≡ r₂) × (words₁ ≡ words₂) × (deltas₁ ≡ deltas₂)
-move_table_one_outcome from-words from-deltas table words deltas r₁ r₂ words₁ deltas₁ words₂ deltas₂ e₁ e₂ =
+move_table_one_outcome from_words from_deltas table words deltas r₁ r₂ words₁ deltas₁ words₂ deltas₂ e₁ e₂ =
     let e = both e₁ e₂ in
     (one move_said unmove move_back r₁ r₂ (ap (λ (y : MoveLeft). y.said) e), ap (λ (y : MoveLeft). y.words) e, ap (λ (y : MoveLeft). y.deltas) e)

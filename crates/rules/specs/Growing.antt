@@ -1,5 +1,5 @@
 -- The two halves, and the insert that grows.
-use Rattle.std.specs.Prelude.{Bool, false, cond, ◌&&◌, List, [], ◌∷◌, ◌++◌, ℕ, zero, suc, ◌+◌, ◌-◌, ◌*◌, eqb, leb}
+use Rattle.std.specs.Prelude.{Bool, false, cond, ◌&&◌, List, [], ◌∷◌, ◌++◌, ℕ, zero, suc, ◌-◌, ◌*◌, eqb, leb}
 use Rattle.rules.specs.Sizes.{least_log, greatest_log, is_size}
 use Rattle.rules.specs.Cells.{Params, Counts, Lent, shape, offered, zero_hash}
 use Rattle.rules.specs.Answers.{Said, found, absent, new, replaced, revived, removed, refused, Change, Outcome}

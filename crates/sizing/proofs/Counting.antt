@@ -1,5 +1,5 @@
 -- One turn of a sample. Assumes nothing.
-use Rattle.std.proofs.Common.{◌≡◌, ℕ, ◌+◌, ◌-◌, ◌*◌, ◌%◌, ◌^◌, ◌<◌, ◌≤◌, Bool, true, false, List, refl, ap, ◌∙◌, add-one, arith}
+use Rattle.std.proofs.Common.{◌≡◌, ℕ, ◌+◌, ◌*◌, ◌%◌, ◌^◌, ◌<◌, ◌≤◌, Bool, true, false, List, refl, ap, ◌∙◌, add-one, arith}
 use Rattle.rules.specs.Sizes.{is_size}
 use Rattle.rules.specs.Walk.{on}
 use Rattle.rules.specs.Sound.{one, count}

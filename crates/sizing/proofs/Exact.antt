@@ -1,6 +1,6 @@
 -- The f32 estimate is S*n/32, since every step is exact: each value is n times a power of two, with n at most 64.
 -- It holds for every S = 2 ^ k with k ≤ 62: a greater S needs no new proof. Assumes nothing.
-use Rattle.std.proofs.Common.{◌≡◌, ℕ, ◌+◌, ◌*◌, ◌/◌, ◌^◌, ◌<◌, ◌≤◌, Bool, true, false, T, ltb, pos, sym, refl, ap, ◌∙◌, subst, ap₂, true≢false, lt_of_lt_of_le, lt_of_le_of_lt, mul-le-mul_right, mul_assoc, mul_comm, lt_of_mul-lt-mul_right, mul-le-mul_left, mul-lt-mul_of_pos_right, mul-pos, one-mul, mul-one, mul_right_comm, arith, lit≤, lt→ltb, pow_mono, pow-add, shl_lt}
+use Rattle.std.proofs.Common.{◌≡◌, ℕ, ◌+◌, ◌*◌, ◌/◌, ◌^◌, ◌<◌, ◌≤◌, Bool, true, false, T, pos, sym, refl, ap, ◌∙◌, subst, ap₂, true≢false, lt_of_lt_of_le, lt_of_le_of_lt, mul-le-mul_right, mul_assoc, mul_comm, lt_of_mul-lt-mul_right, mul-le-mul_left, mul-lt-mul_of_pos_right, mul-pos, one-mul, mul-one, mul_right_comm, arith, lit≤, lt→ltb, pow_mono, pow-add, shl_lt}
 use native.Mathlib.Nat.{mul-mul-mul_comm, eq_of_mul-eq-mul_right, mul-div-mul_right, mul-div-mul_left}
 use lib.Pow.{pow-lt}
 use lib.Ieee.{Float, nan, inf, fin, binary32, up, down, mul, div, of_int, to_unsigned, round, lt}

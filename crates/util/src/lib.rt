@@ -19,6 +19,9 @@ pub fn wrapping_mul(a: u64, b: u64) -> u64
     ((high_a * low_b + crossed) << 32) | (low & 0xffff_ffff)
 }
 
+// 2^63.
+const GREATEST_POWER: u64 = 0x8000_0000_0000_0000;
+
 // The least power of two that is at least x; 0 for 0 and for what is above 2^63.
 pub fn round_to_pow2(x: u64) -> u64
     ensures { result ≡ round_up x }
@@ -26,7 +29,7 @@ pub fn round_to_pow2(x: u64) -> u64
     if x == 0 {
         return 0;
     }
-    if 0x8000_0000_0000_0000 < x {
+    if GREATEST_POWER < x {
         return 0;
     }
     1u64 << (64 - u64::leading_zeros(x - 1))
@@ -52,6 +55,9 @@ fn number_of(bytes: &[u8]) -> u64
     n
 }
 
+// How many bytes a load takes at most.
+const MOST_BYTES: usize = 8;
+
 // What a load answers.
 #[derive(Clone, Copy)]
 pub enum Loaded {
@@ -64,7 +70,7 @@ pub enum Loaded {
 pub fn load_u64_le(bytes: &[u8]) -> Loaded
     ensures { said result ≡ load bytes.now }
 {
-    if bytes.len() <= 8 {
+    if bytes.len() <= MOST_BYTES {
         Loaded::Number(number_of(bytes))
     } else {
         Loaded::Length

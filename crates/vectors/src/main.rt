@@ -1,5 +1,7 @@
 // Prints what the hashers and the helpers give for published vectors and for the edges of their rules.
 // The file stdout beside src/ holds what is right; compare/vectors writes it anew without this code.
+#![tactic(auto)]
+
 use hashers::{Hasher, MurmurHasher, MurmurWrite};
 
 // Standard output.

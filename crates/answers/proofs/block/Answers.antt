@@ -1,9 +1,5 @@
 -- `answers::block` meets its contract. Assumes nothing.
-use borrow.Author.Rules.{rules}
-use mathlib.Core.Path.{◌≡◌}
-use Prim.Native.Nat.{◌-◌}
 use native.Mathlib.Omega.{arith}
-use lib.ListN.{length}
 use Rattle.answers.proofs.block.Goals as goal
 
 pub overflow_step-i : goal.overflow_step-i

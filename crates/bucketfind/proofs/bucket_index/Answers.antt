@@ -1,5 +1,5 @@
 -- `bucketfind::bucket_index` meets its contract. Assumes nothing.
-use Rattle.std.proofs.Common.{arith, rules}
+use Rattle.std.proofs.Common.{arith}
 use Rattle.steps.proofs.Sizes.{size_greatest}
 use Rattle.bucketfind.proofs.bucket_index.Goals as goal
 

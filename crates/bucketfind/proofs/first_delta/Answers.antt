@@ -1,5 +1,4 @@
 -- `bucketfind::first_delta` meets its contract. Assumes nothing.
-use Rattle.std.proofs.Common.{rules}
 use Rattle.bucketfind.proofs.first_delta.Goals as goal
 
 pub returns : goal.returns

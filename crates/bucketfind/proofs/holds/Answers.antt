@@ -1,5 +1,5 @@
 -- `bucketfind::holds` meets its contract. Assumes nothing.
-use Rattle.std.proofs.Common.{rules, eq-eqb, ne_eqb}
+use Rattle.std.proofs.Common.{eq-eqb, ne_eqb}
 use Rattle.bucketfind.proofs.holds.Goals as goal
 
 pub returns-then-cell-hash : goal.returns-then-cell-hash

@@ -1,5 +1,5 @@
 -- `bucketfind::met` meets its contract. Assumes nothing.
-use Rattle.std.proofs.Common.{rules, eq-eqb, ne_eqb}
+use Rattle.std.proofs.Common.{eq-eqb, ne_eqb}
 use Rattle.bucketfind.proofs.met.Goals as goal
 
 pub returns-then-value : goal.returns-then-value

@@ -1,5 +1,5 @@
 -- `bucketfind::passes` meets its contract. Assumes nothing.
-use Rattle.std.proofs.Common.{◌≡◌, ℕ, ◌*◌, ◌<◌, Bool, false, ◌&&◌, sym, ◌∙◌, arith, rules}
+use Rattle.std.proofs.Common.{◌≡◌, ℕ, ◌*◌, ◌<◌, Bool, false, ◌&&◌, sym, ◌∙◌, arith}
 use Rattle.rules.specs.Sizes.{is_size}
 use Rattle.steps.proofs.Sizes.{no_size, size_greatest}
 use Rattle.bucketfind.proofs.passes.Goals as goal

@@ -1,5 +1,4 @@
 -- `bucketfind::second_delta` meets its contract. Assumes nothing.
-use Rattle.std.proofs.Common.{rules}
 use Rattle.bucketfind.proofs.second_delta.Goals as goal
 
 pub returns : goal.returns

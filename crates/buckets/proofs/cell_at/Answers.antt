@@ -1,5 +1,4 @@
 -- `buckets::cell_at` meets its contract. Assumes nothing.
-use borrow.Author.Rules.{rules}
 use Rattle.buckets.proofs.cell_at.Goals as goal
 
 pub returns : goal.returns

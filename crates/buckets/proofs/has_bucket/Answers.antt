@@ -1,7 +1,6 @@
 -- `buckets::has_bucket` meets its contract. Assumes nothing.
 use mathlib.Core.Bool.{true, false}
 use mathlib.Core.Path.{◌≡◌, sym, ◌∙◌}
-use borrow.Author.Rules.{rules}
 use Rattle.cells.specs.Layout.{is_shaped}
 use Rattle.buckets.specs.Buckets.{fits_bucket}
 use Rattle.buckets.proofs.has_bucket.Goals as goal

@@ -1,7 +1,6 @@
 -- `buckets::put_bucket` meets its contract. Assumes nothing.
 use mathlib.Core.Bool.{true, false}
 use mathlib.Core.Path.{◌≡◌, sym, ◌∙◌}
-use borrow.Author.Rules.{rules}
 use Rattle.buckets.specs.Buckets.{fits_bucket, putting}
 use Rattle.buckets.proofs.Stores.{inside}
 use Rattle.buckets.proofs.put_bucket.Goals as goal

@@ -1,6 +1,5 @@
 -- `buckets::put_cells` meets its contract. Assumes nothing.
 use native.Mathlib.Omega.{arith}
-use borrow.Author.Rules.{rules}
 use Rattle.buckets.proofs.Stores.{four_stores}
 use Rattle.buckets.proofs.put_cells.Goals as goal
 

@@ -1,6 +1,5 @@
 -- `buckets::put_deltas` meets its contract. Assumes nothing.
 use native.Mathlib.Omega.{arith}
-use borrow.Author.Rules.{rules}
 use lib.ListN.{length-set}
 use Rattle.buckets.proofs.Stores.{eight_stores}
 use Rattle.buckets.proofs.put_deltas.Goals as goal

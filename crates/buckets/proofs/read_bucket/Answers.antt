@@ -1,7 +1,6 @@
 -- `buckets::read_bucket` meets its contract. Assumes nothing.
 use Prim.Native.Nat.{◌*◌}
 use native.Mathlib.Nat.{add-zero}
-use borrow.Author.Rules.{rules}
 use Rattle.buckets.specs.Buckets.{bucket_at}
 use Rattle.buckets.proofs.read_bucket.Goals as goal
 

@@ -1,7 +1,6 @@
 -- `buckets::take_bucket` meets its contract. Assumes nothing.
 use mathlib.Core.Bool.{true, false}
 use mathlib.Core.Path.{◌≡◌, sym, ◌∙◌}
-use borrow.Author.Rules.{rules}
 use Rattle.buckets.specs.Buckets.{fits_bucket, taking}
 use Rattle.buckets.proofs.Stores.{inside}
 use Rattle.buckets.proofs.take_bucket.Goals as goal

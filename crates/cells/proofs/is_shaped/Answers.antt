@@ -1,5 +1,5 @@
 -- `cells::is_shaped` meets its contract. Assumes nothing.
-use Rattle.std.proofs.Common.{sym, ◌∙◌, rules, eq-eqb, ne_eqb}
+use Rattle.std.proofs.Common.{sym, ◌∙◌, eq-eqb, ne_eqb}
 use Rattle.cells.specs.Layout.{is_shaped}
 use Rattle.cells.proofs.is_shaped.Goals as goal
 

@@ -1,5 +1,5 @@
 -- `cells::is_size` meets its contract. Assumes nothing.
-use Rattle.std.proofs.Common.{sym, arith, rules}
+use Rattle.std.proofs.Common.{sym, arith}
 use Rattle.steps.proofs.Sizes.{size_test, no_size, size_least, size_greatest}
 use Rattle.cells.proofs.is_size.Goals as goal
 

@@ -1,5 +1,5 @@
 -- `cells::passes` meets its contract. Assumes nothing.
-use Rattle.std.proofs.Common.{sym, ◌∙◌, rules}
+use Rattle.std.proofs.Common.{sym, ◌∙◌}
 use Rattle.cells.proofs.passes.Goals as goal
 
 pub returns-then-is_shaped : goal.returns-then-is_shaped

@@ -1,6 +1,6 @@
 -- `checker::cell_ok` meets its contract. Assumes nothing.
-use Rattle.std.proofs.Common.{sym, ◌∙◌, arith, rules, eq-eqb, ne_eqb, le-leb}
-use borrow.Author.Tests.{lt-leb, not-true, not-false}
+use Rattle.std.proofs.Common.{sym, ◌∙◌, arith, eq-eqb, ne_eqb, le-leb}
+use borrow.Author.Tests.{lt-leb}
 use Rattle.steps.proofs.Sizes.{size_least}
 use Rattle.cells.proofs.Shapes.{deltas_hold}
 use Rattle.checker.specs.Check.{cell_test}

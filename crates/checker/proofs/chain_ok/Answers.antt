@@ -1,10 +1,8 @@
 -- `checker::chain_ok` meets its contract: what is left of the chain is tested like the whole. Assumes nothing.
-use Rattle.std.proofs.Common.{◌≡◌, suc, ◌-◌, ◌%◌, get_or, sym, refl, ◌∙◌, arith, rules}
-use borrow.Author.Tests.{not-true, not-false}
+use Rattle.std.proofs.Common.{◌≡◌, suc, ◌-◌, sym, refl, ◌∙◌, arith}
 use Rattle.steps.proofs.Sizes.{size_least}
-use Rattle.cells.specs.Layout.{view, first_at}
+use Rattle.cells.specs.Layout.{view}
 use Rattle.cells.proofs.Shapes.{in_words, in_deltas, deltas_hold}
-use Rattle.checker.specs.Check.{chain_test}
 use Rattle.checker.proofs.Chains.{chain_ends, chain_long, chain_stranger, chain_on, home_position}
 use Rattle.checker.proofs.chain_ok.Goals as goal
 

@@ -1,5 +1,5 @@
 -- `checker::check` meets its contract. Assumes nothing.
-use Rattle.std.proofs.Common.{sym, ◌∙◌, rules}
+use Rattle.std.proofs.Common.{sym, ◌∙◌}
 use Rattle.steps.proofs.Branches.{shape_fails, shape_passes}
 use Rattle.cells.specs.Layout.{lent}
 use Rattle.cells.proofs.Shapes.{passed}

@@ -1,13 +1,9 @@
 -- `checker::is_sound` meets its contract: the cells passed so far pass the test, and their live ones are counted. Assumes nothing.
-use Rattle.std.proofs.Common.{◌≡◌, ◌-◌, ◌≤◌, true, sym, ◌∙◌, arith, rules}
-use borrow.Author.Tests.{not-true, not-false}
+use Rattle.std.proofs.Common.{◌≡◌, ◌-◌, ◌≤◌, true}
 use Rattle.rules.specs.Cells.{is_live}
 use Rattle.rules.specs.Sound.{count}
-use Rattle.steps.proofs.Sizes.{size_greatest}
-use Rattle.cells.specs.Layout.{view, value_in, live_in, params_of, counts_of}
-use Rattle.cells.proofs.Shapes.{words_hold}
+use Rattle.cells.specs.Layout.{view, value_in, params_of}
 use Rattle.checker.specs.Check.{all, cell_test}
-use Rattle.checker.proofs.Counting.{all_none, all_more, count_none, count_more, one_most, sound_fails, sound_counts}
 use Rattle.checker.proofs.is_sound.Given as goal
 
 abbrev pub invariant-loop-i : goal.invariant-loop-i

@@ -1,5 +1,5 @@
 -- `checker::live_one` meets its contract. Assumes nothing.
-use Rattle.std.proofs.Common.{sym, ◌∙◌, rules}
+use Rattle.std.proofs.Common.{sym, ◌∙◌}
 use Rattle.checker.proofs.live_one.Goals as goal
 
 pub returns-then-is_live : goal.returns-then-is_live

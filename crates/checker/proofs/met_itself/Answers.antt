@@ -1,5 +1,5 @@
 -- `checker::met_itself` meets its contract. Assumes nothing.
-use Rattle.std.proofs.Common.{ℕ, eqb, ap, ◌∙◌, rules}
+use Rattle.std.proofs.Common.{ℕ, eqb, ap, ◌∙◌}
 use Rattle.cells.specs.Layout.{view}
 use Rattle.cells.specs.Workers.{stop_of}
 use Rattle.checker.proofs.Meets.{stops_so}

@@ -1,5 +1,5 @@
 -- `checker::of_home` meets its contract. Assumes nothing.
-use Rattle.std.proofs.Common.{sym, ◌∙◌, rules, eq-eqb, ne_eqb}
+use Rattle.std.proofs.Common.{sym, ◌∙◌, eq-eqb, ne_eqb}
 use Rattle.checker.proofs.of_home.Goals as goal
 
 pub returns-then-hash-eq0 : goal.returns-then-hash-eq0

@@ -1,6 +1,5 @@
 -- `checker::taken_ok` meets its contract. Assumes nothing.
-use Rattle.std.proofs.Common.{sym, ap, ◌∙◌, rules, eq-eqb, ne_eqb}
-use borrow.Author.Tests.{not-true, not-false}
+use Rattle.std.proofs.Common.{sym, ap, ◌∙◌, eq-eqb, ne_eqb}
 use Rattle.hashers.specs.Keys.{hash_of}
 use Rattle.cells.proofs.Shapes.{deltas_hold}
 use Rattle.checker.specs.Check.{taken_test}

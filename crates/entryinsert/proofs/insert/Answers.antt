@@ -1,5 +1,4 @@
 -- `entryinsert::insert` meets its contract. Assumes nothing.
-use borrow.Author.Rules.{rules}
 use mathlib.Core.Path.{ap, ◌∙◌}
 use Rattle.rules.specs.Entries.{Action, inserting, use_entry}
 use Rattle.cells.specs.Layout.{lent}

@@ -1,5 +1,5 @@
 -- `grown::insert_keys` keeps the slices' lengths. Assumes nothing.
-use Rattle.std.proofs.Common.{◌≡◌, ◌-◌, length, ◌∙◌, rules}
+use Rattle.std.proofs.Common.{◌∙◌}
 use Rattle.grown.proofs.insert_keys.Goals as goal
 
 pub loop-j-preserved : goal.loop-j-preserved

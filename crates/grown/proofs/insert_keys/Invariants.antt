@@ -1,5 +1,5 @@
 -- `grown::insert_keys` keeps the slices' lengths. Assumes nothing.
-use Rattle.std.proofs.Common.{◌≡◌, ◌-◌, length, ◌∙◌, rules}
+use Rattle.std.proofs.Common.{◌≡◌, ◌-◌, length}
 use Rattle.grown.proofs.insert_keys.Given as goal
 
 abbrev pub invariant-loop-j : goal.invariant-loop-j

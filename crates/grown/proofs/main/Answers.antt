@@ -1,5 +1,5 @@
 -- `grown::main`: the arrays are as long as the slices made of them; by a law, since a search would count them. Assumes nothing.
-use Rattle.std.proofs.Common.{◌≡◌, ℕ, length, replicate, sym, rules}
+use Rattle.std.proofs.Common.{◌≡◌, ℕ, length, replicate, sym}
 use lib.ListN.{length-replicate}
 use Rattle.grown.proofs.main.Goals as goal
 

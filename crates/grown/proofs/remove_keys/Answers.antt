@@ -1,5 +1,4 @@
 -- `grown::remove_keys` keeps the slices' lengths. Assumes nothing.
-use Rattle.std.proofs.Common.{◌≡◌, ◌-◌, length, rules}
 use Rattle.grown.proofs.remove_keys.Goals as goal
 
 pub shape_of-lower_words : goal.shape_of-lower_words

@@ -1,5 +1,5 @@
 -- `grown::remove_keys` keeps the slices' lengths. Assumes nothing.
-use Rattle.std.proofs.Common.{◌≡◌, ◌-◌, length, rules}
+use Rattle.std.proofs.Common.{◌≡◌, ◌-◌, length}
 use Rattle.grown.proofs.remove_keys.Given as goal
 
 abbrev pub invariant-loop-key : goal.invariant-loop-key

@@ -1,6 +1,5 @@
 -- `growth::after_full` meets its contract. Assumes nothing.
 use mathlib.Core.Path.{refl}
-use borrow.Author.Rules.{rules}
 use native.Mathlib.Omega.{arith}
 use Rattle.growth.proofs.Fulls.{sample_fits, first_power, full_to, full_no_room, full_broken}
 use Rattle.growth.proofs.after_full.Goals as goal

@@ -1,12 +1,7 @@
 -- `growth::grow_in` meets its contract. Assumes nothing.
-use borrow.Author.Rules.{rules}
-use mathlib.Core.Logic.{⊎_elim}
 use mathlib.Core.Path.{refl}
-use Prim.Native.Nat.{◌-◌}
 use native.Mathlib.Omega.{arith}
-use Rattle.rules.specs.Growing.{most_rounds}
-use Rattle.parts.specs.Halves.{half_of}
-use Rattle.growth.proofs.Loop.{Turning, turning, sides, few, still, stops, goes_on}
+use Rattle.growth.proofs.Loop.{turning, sides, few, still, stops, goes_on}
 use Rattle.growth.proofs.grow_in.Goals as goal
 
 pub loop-to-init : goal.loop-to-init

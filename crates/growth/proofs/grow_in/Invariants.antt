@@ -1,12 +1,8 @@
 -- `growth::grow_in` meets its contract. Assumes nothing.
-use borrow.Author.Rules.{rules}
-use mathlib.Core.Logic.{⊎_elim}
-use mathlib.Core.Path.{refl}
 use Prim.Native.Nat.{◌-◌}
-use native.Mathlib.Omega.{arith}
 use Rattle.rules.specs.Growing.{most_rounds}
 use Rattle.parts.specs.Halves.{half_of}
-use Rattle.growth.proofs.Loop.{Turning, turning, sides, few, still, stops, goes_on}
+use Rattle.growth.proofs.Loop.{Turning}
 use Rattle.growth.proofs.grow_in.Given as goal
 
 abbrev pub invariant-loop-to : goal.invariant-loop-to

@@ -1,6 +1,5 @@
 -- `growth::insert` meets its contract. Assumes nothing.
 use mathlib.Core.Path.{sym, ap, ◌∙◌}
-use borrow.Author.Rules.{rules}
 use Rattle.cells.specs.Layout.{offered_by}
 use Rattle.growth.specs.Growth.{grown_by}
 use Rattle.growth.proofs.Checked.{sided, refused_1, refused_2, refused_3, grows}

@@ -1,8 +1,5 @@
 -- `growth::one_round` meets its contract. Assumes nothing.
-use mathlib.Core.Logic.{⊎_elim}
 use mathlib.Core.Path.{◌∙◌}
-use native.Mathlib.Omega.{arith}
-use borrow.Author.Rules.{rules}
 use Rattle.growth.proofs.Fulls.{round_answered, round_full}
 use Rattle.growth.proofs.one_round.Goals as goal
 

@@ -1,5 +1,4 @@
 -- `growth::said_by` meets its contract. Assumes nothing.
-use borrow.Author.Rules.{rules}
 use mathlib.Core.Path.{sym, ap, subst, ◌∙◌}
 use Rattle.growth.specs.Rounds.{round_end}
 use Rattle.growth.specs.Ends.{Still, turn_said}

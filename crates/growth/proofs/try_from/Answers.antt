@@ -1,10 +1,8 @@
 -- `growth::try_from` meets its contract. Assumes nothing.
-use borrow.Author.Rules.{rules}
 use mathlib.Core.Path.{refl}
-use Prim.Native.Nat.{◌+◌, ◌-◌}
 use native.Mathlib.Omega.{arith}
 use Rattle.steps.proofs.Sizes.{size_greatest}
-use Rattle.growth.proofs.Tries.{Trying, trying, fits, all_over, broke, again, over, grows}
+use Rattle.growth.proofs.Tries.{trying, fits, all_over, broke, again, over, grows}
 use Rattle.growth.proofs.try_from.Goals as goal
 
 pub loop-to-init : goal.loop-to-init

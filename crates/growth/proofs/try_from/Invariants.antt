@@ -1,10 +1,6 @@
 -- `growth::try_from` meets its contract. Assumes nothing.
-use borrow.Author.Rules.{rules}
-use mathlib.Core.Path.{refl}
 use Prim.Native.Nat.{◌+◌, ◌-◌}
-use native.Mathlib.Omega.{arith}
-use Rattle.steps.proofs.Sizes.{size_greatest}
-use Rattle.growth.proofs.Tries.{Trying, trying, fits, all_over, broke, again, over, grows}
+use Rattle.growth.proofs.Tries.{Trying}
 use Rattle.growth.proofs.try_from.Given as goal
 
 abbrev pub invariant-loop-to : goal.invariant-loop-to

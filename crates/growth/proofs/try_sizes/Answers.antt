@@ -1,5 +1,4 @@
 -- `growth::try_sizes` meets its contract. Assumes nothing.
-use borrow.Author.Rules.{rules}
 use Rattle.growth.proofs.Tries.{none, some_fit}
 use Rattle.growth.proofs.try_sizes.Goals as goal
 

@@ -1,6 +1,5 @@
 -- `growth::turn` meets its contract. Assumes nothing.
 use mathlib.Core.Path.{sym, ap, subst, ◌∙◌}
-use borrow.Author.Rules.{rules}
 use Rattle.parts.specs.Halves.{half_of}
 use Rattle.growth.specs.Rounds.{Sides, turn_sides, swapped}
 use Rattle.growth.proofs.turn.Goals as goal

@@ -1,5 +1,4 @@
 -- `halves::clear_halves` meets its contract. Assumes nothing.
-use borrow.Author.Rules.{rules}
 use native.Mathlib.Omega.{arith}
 use mathlib.Core.Path.{sym, ◌∙◌}
 use Rattle.halves.proofs.Cleared.{clears, keeps_size, keeps_halves}

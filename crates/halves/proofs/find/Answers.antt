@@ -1,5 +1,4 @@
 -- `halves::find` meets its contract. Assumes nothing.
-use borrow.Author.Rules.{rules}
 use native.Mathlib.Omega.{arith}
 use mathlib.Core.Path.{sym, ◌∙◌}
 use Rattle.steps.proofs.Branches.{find_shape}

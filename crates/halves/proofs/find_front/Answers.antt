@@ -1,5 +1,4 @@
 -- `halves::find_front` meets its contract. Assumes nothing.
-use borrow.Author.Rules.{rules}
 use native.Mathlib.Omega.{arith}
 use lib.ListN.{length-take}
 use Rattle.halves.proofs.find_front.Goals as goal

@@ -1,5 +1,4 @@
 -- `halves::remove` meets its contract. Assumes nothing.
-use borrow.Author.Rules.{rules}
 use native.Mathlib.Omega.{arith}
 use mathlib.Core.Path.{sym, ◌∙◌}
 use Rattle.halves.proofs.Leaving.{removed_lower, removed_upper, remove_kept}

@@ -1,5 +1,4 @@
 -- `hashers::leapfrog_hash_fnv` meets its contract. Assumes nothing.
-use borrow.Author.Rules.{rules}
 use mathlib.Core.Path.{ap}
 use Rattle.hashers.specs.declared.fnv.FnvHasher.{FnvHasher}
 use Rattle.hashers.proofs.leapfrog_hash_fnv.Goals as goal

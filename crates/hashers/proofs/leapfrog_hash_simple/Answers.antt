@@ -1,5 +1,4 @@
 -- `hashers::leapfrog_hash_simple` meets its contract. Assumes nothing.
-use borrow.Author.Rules.{rules}
 use mathlib.Core.Path.{sym, ap, ◌∙◌}
 use Rattle.hashers.specs.Writes.{simple_said}
 use Rattle.hashers.specs.Exports.{given}

@@ -2,7 +2,6 @@
 use mathlib.Core.Path.{refl}
 use Rattle.cells.proofs.Doing.{did, left_all}
 use Rattle.hashiter.proofs.Setting.{set_empty, set_removed, set_live}
-use borrow.Author.Rules.{rules}
 use Rattle.hashiter.proofs.set_in.Goals as goal
 
 pub returns-then-hash-eq0 : goal.returns-then-hash-eq0

@@ -6,7 +6,6 @@ use Rattle.cells.specs.Layout.{lent, offered_by}
 use Rattle.cells.proofs.Shapes.{words_hold, passed}
 use Rattle.cells.proofs.Doing.{left_all, as_rule}
 use Rattle.hashiter.proofs.Setting.{set_shape, set_index, set_offered, set_past}
-use borrow.Author.Rules.{rules}
 use Rattle.hashiter.proofs.set_value.Goals as goal
 
 pub set_in-requires : goal.set_in-requires

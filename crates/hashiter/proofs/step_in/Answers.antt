@@ -1,8 +1,6 @@
 -- `hashiter::step_in` meets its contract: from i on a step says what it says from the position given. Assumes nothing.
-use borrow.Author.Rules.{rules}
-use Prim.Native.Nat.{◌-◌}
 use native.Mathlib.Omega.{arith}
-use Rattle.hashiter.proofs.Stepping.{Going, going_start, going_live, going_past, going_end}
+use Rattle.hashiter.proofs.Stepping.{going_start, going_live, going_past, going_end}
 use Rattle.hashiter.proofs.step_in.Goals as goal
 
 pub loop-i-init : goal.loop-i-init

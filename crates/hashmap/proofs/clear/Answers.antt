@@ -1,5 +1,4 @@
 -- `hashmap::clear` meets its contract. Assumes nothing.
-use borrow.Author.Rules.{rules}
 use mathlib.Core.Path.{sym, ◌∙◌}
 use Rattle.cells.proofs.Shapes.{exact_lengths}
 use Rattle.hashmap.proofs.Cleared.{clears, keeps}

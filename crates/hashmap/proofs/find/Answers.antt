@@ -1,5 +1,4 @@
 -- `hashmap::find` meets its contract. Assumes nothing.
-use borrow.Author.Rules.{rules}
 use mathlib.Core.Path.{sym, ◌∙◌}
 use Rattle.steps.proofs.Branches.{shape_fails, shape_passes, find_shape, find_zero, find_past}
 use Rattle.cells.specs.Layout.{lent}

@@ -1,5 +1,4 @@
 -- `hashmap::find_in` meets its contract. Assumes nothing.
-use borrow.Author.Rules.{rules}
 use mathlib.Core.Path.{ap}
 use Rattle.steps.proofs.Branches.{find_ends, find_removed, find_live}
 use Rattle.cells.specs.Workers.{stop_of}

@@ -1,5 +1,4 @@
 -- `hashmap::insert` meets its contract. Assumes nothing.
-use borrow.Author.Rules.{rules}
 use mathlib.Core.Path.{sym, ap, ◌∙◌}
 use Rattle.steps.proofs.Branches.{shape_fails, shape_passes, insert_shape, insert_offered, insert_zero, insert_past}
 use Rattle.cells.specs.Layout.{lent, offered_by}

@@ -1,5 +1,4 @@
 -- `hashmap::remove` meets its contract. Assumes nothing.
-use borrow.Author.Rules.{rules}
 use mathlib.Core.Path.{sym, ◌∙◌}
 use Rattle.steps.proofs.Branches.{shape_fails, shape_passes, remove_shape, remove_zero, remove_past}
 use Rattle.cells.specs.Layout.{lent}

@@ -1,5 +1,4 @@
 -- `hashmap::remove_in` meets its contract. Assumes nothing.
-use borrow.Author.Rules.{rules}
 use mathlib.Core.Path.{refl, ap}
 use Rattle.steps.proofs.Branches.{remove_ends, remove_removed, remove_done_lem, remove_none_left}
 use Rattle.cells.specs.Workers.{stop_of}

@@ -1,5 +1,4 @@
 -- `hashreads::capacity` meets its contract. Assumes nothing.
-use borrow.Author.Rules.{rules}
 use mathlib.Core.Path.{sym, ◌∙◌}
 use Rattle.hashreads.specs.Answers.{capacity_rule}
 use Rattle.hashreads.proofs.capacity.Goals as goal

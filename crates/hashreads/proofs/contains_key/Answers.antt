@@ -1,5 +1,4 @@
 -- `hashreads::contains_key` meets its contract. Assumes nothing.
-use borrow.Author.Rules.{rules}
 use mathlib.Core.Path.{sym, ap, ◌∙◌}
 use Rattle.rules.specs.Answers.{Answer}
 use Rattle.hashmap.specs.Answers.{find_said}

@@ -1,5 +1,4 @@
 -- `moves::move_past` meets its contract. Assumes nothing.
-use borrow.Author.Rules.{rules}
 use mathlib.Core.Path.{◌∙◌}
 use Rattle.rules.specs.Moves.{move_all}
 use Rattle.cells.specs.Layout.{null, counts_of}

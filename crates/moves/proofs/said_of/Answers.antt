@@ -1,5 +1,4 @@
 -- `moves::said_of` meets its contract. Assumes nothing.
-use borrow.Author.Rules.{rules}
 use Rattle.moves.proofs.said_of.Goals as goal
 
 pub returns-in-All : goal.returns-in-All

@@ -1,5 +1,4 @@
 -- `moving::end_after` meets its contract. Assumes nothing.
-use borrow.Author.Rules.{rules}
 use Rattle.moving.proofs.end_after.Goals as goal
 
 pub returns-in-New : goal.returns-in-New

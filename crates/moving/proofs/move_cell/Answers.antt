@@ -1,5 +1,4 @@
 -- `moving::move_cell` meets its contract. Assumes nothing.
-use borrow.Author.Rules.{rules}
 use Rattle.cells.specs.Layout.{counts_of}
 use Rattle.moving.specs.Slices.{held_in}
 use Rattle.moving.proofs.Moving.{cell_behind, cell_zero, cell_inserted}

@@ -1,15 +1,10 @@
 -- `moving::move_cells` meets its contract: at each turn the move is what is left of it. Assumes nothing.
 use borrow.Author.Rules.{rules}
-use mathlib.Core.List.{List}
-use mathlib.Core.Path.{◌≡◌, refl, ap, ◌∙◌}
-use Prim.Native.Nat.{ℕ, ◌-◌}
-use lib.ListN.{length}
-use Rattle.rules.specs.Moves.{move_cells}
-use Rattle.cells.specs.Layout.{null, counts_of}
+use mathlib.Core.Path.{refl, ap, ◌∙◌}
 use Rattle.moving.specs.Slices.{held_in}
-use Rattle.moving.specs.Ends.{end_of, placed_by}
+use Rattle.moving.specs.Ends.{end_of}
 use Rattle.moving.proofs.Held.{shaped_as}
-use Rattle.moving.proofs.Moving.{Left, left_start, left_on, left_stop, left_end}
+use Rattle.moving.proofs.Moving.{left_start, left_on, left_stop, left_end}
 use Rattle.moving.proofs.move_cells.Goals as goal
 
 pub loop-i-init : goal.loop-i-init

@@ -1,15 +1,13 @@
 -- `moving::move_cells` meets its contract: at each turn the move is what is left of it. Assumes nothing.
-use borrow.Author.Rules.{rules}
 use mathlib.Core.List.{List}
-use mathlib.Core.Path.{◌≡◌, refl, ap, ◌∙◌}
+use mathlib.Core.Path.{◌≡◌}
 use Prim.Native.Nat.{ℕ, ◌-◌}
 use lib.ListN.{length}
 use Rattle.rules.specs.Moves.{move_cells}
 use Rattle.cells.specs.Layout.{null, counts_of}
 use Rattle.moving.specs.Slices.{held_in}
-use Rattle.moving.specs.Ends.{end_of, placed_by}
-use Rattle.moving.proofs.Held.{shaped_as}
-use Rattle.moving.proofs.Moving.{Left, left_start, left_on, left_stop, left_end}
+use Rattle.moving.specs.Ends.{placed_by}
+use Rattle.moving.proofs.Moving.{Left}
 use Rattle.moving.proofs.move_cells.Given as goal
 
 abbrev pub invariant-loop-i : goal.invariant-loop-i

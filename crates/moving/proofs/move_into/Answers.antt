@@ -1,5 +1,4 @@
 -- `moving::move_into` meets its contract. Assumes nothing.
-use borrow.Author.Rules.{rules}
 use mathlib.Core.Path.{sym, ap, ◌∙◌}
 use lib.ListN.{length}
 use Rattle.moving.specs.Slices.{held_in}

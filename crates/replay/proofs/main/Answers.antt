@@ -1,5 +1,4 @@
 -- `replay::main`: the arrays are as long as the slices made of them; by a law, since a search would count them. Assumes nothing.
-use borrow.Author.Rules.{rules}
 use mathlib.Core.Path.{◌≡◌, sym}
 use Prim.Native.Nat.{ℕ}
 use lib.ListN.{length, replicate, length-replicate}

@@ -1,5 +1,5 @@
 -- `sizing::first_size` meets its contract. Assumes nothing.
-use Rattle.std.proofs.Common.{◌^◌, max, ap, ◌∙◌, arith, rules}
+use Rattle.std.proofs.Common.{◌^◌, max, ap, ◌∙◌, arith}
 use Rattle.rules.specs.Sizes.{least_log}
 use Rattle.rules.specs.Growth.{first_size}
 use Rattle.sizing.proofs.Sizes.{product_fits}

@@ -1,5 +1,5 @@
 -- `sizing::first_size_f32` meets its contract: the estimate is exact. Assumes nothing.
-use Rattle.std.proofs.Common.{◌^◌, max, ap, ◌∙◌, rules}
+use Rattle.std.proofs.Common.{◌^◌, max, ap, ◌∙◌}
 use Rattle.util.specs.Power.{round_up}
 use Rattle.rules.specs.Sizes.{least_log}
 use Rattle.rules.specs.Growth.{first_size}

@@ -1,7 +1,7 @@
 -- `sizing::sample` meets its contract: after i turns n counts the first i positions. Assumes nothing.
-use Rattle.std.proofs.Common.{◌-◌, ⊎_elim, arith, rules}
-use Rattle.rules.specs.Growth.{sampled, sample}
-use Rattle.sizing.proofs.Counting.{Counting, counting_start, counting_live, counting_not, counting_end, cell_in}
+use Rattle.std.proofs.Common.{arith}
+use Rattle.rules.specs.Growth.{sample}
+use Rattle.sizing.proofs.Counting.{counting_start, counting_live, counting_not, counting_end, cell_in}
 use Rattle.sizing.proofs.sample.Goals as goal
 use Rattle.sizing.proofs.sample.Goals.{then-is_live, else-is_live}
 
@@ -23,8 +23,8 @@ loop-i-smaller c = omega arith
 pub loop-i-preserved : goal.loop-i-preserved
 loop-i-preserved c =
     elim c.if-is_live.branch [
-      then-is_live w ↦ counting_live c.loop-i.invariant c.loop-i-test.true c.wrapping_add_u64-at.ensures.value c.cell_of.ensures c.is_live.ensures w.if-is_live.true w.n-is
-    | else-is_live w ↦ counting_not c.loop-i.invariant c.loop-i-test.true c.wrapping_add_u64-at.ensures.value c.cell_of.ensures c.is_live.ensures w.if-is_live.false w.n-is
+      | then-is_live w ↦ counting_live c.loop-i.invariant c.loop-i-test.true c.wrapping_add_u64-at.ensures.value c.cell_of.ensures c.is_live.ensures w.if-is_live.true w.n-is
+      | else-is_live w ↦ counting_not c.loop-i.invariant c.loop-i-test.true c.wrapping_add_u64-at.ensures.value c.cell_of.ensures c.is_live.ensures w.if-is_live.false w.n-is
     ]
 
 pub returns : goal.returns

@@ -1,7 +1,7 @@
 -- `sizing::sample` meets its contract: after i turns n counts the first i positions. Assumes nothing.
-use Rattle.std.proofs.Common.{◌-◌, ⊎_elim, arith, rules}
-use Rattle.rules.specs.Growth.{sampled, sample}
-use Rattle.sizing.proofs.Counting.{Counting, counting_start, counting_live, counting_not, counting_end, cell_in}
+use Rattle.std.proofs.Common.{◌-◌}
+use Rattle.rules.specs.Growth.{sampled}
+use Rattle.sizing.proofs.Counting.{Counting}
 use Rattle.sizing.proofs.sample.Given as goal
 
 abbrev pub invariant-loop-i : goal.invariant-loop-i

@@ -1,9 +1,9 @@
 -- `util::number_of` meets its contract: n is the number of the bytes from i on. Assumes nothing.
 use borrow.Author.Rules.{rules}
 use mathlib.Core.Path.{◌≡◌, sym, ap, ◌∙◌}
-use Prim.Native.Nat.{ℕ, ◌≤◌, ◌-◌}
+use Prim.Native.Nat.{ℕ, ◌-◌}
 use native.Mathlib.Omega.{arith}
-use lib.ListN.{length, drop}
+use lib.ListN.{drop}
 use lib.Seq.{drop-length}
 use Rattle.util.specs.Bytes.{number}
 use Rattle.util.proofs.Loading.{rest_fits, one_more}

@@ -12,8 +12,8 @@ use Rattle.util.proofs.round_to_pow2.Goals as goal
 pub returns-then-x-eq0 : goal.returns-then-x-eq0
 returns-then-x-eq0 c = sym (round_none c.args.x (λ p. omega arith))
 
-pub returns-then-x-gt9223372036854775808 : goal.returns-then-x-gt9223372036854775808
-returns-then-x-gt9223372036854775808 c = sym (round_none c.args.x (λ p. omega arith))
+pub returns-then-x-gt-GREATEST_POWER : goal.returns-then-x-gt-GREATEST_POWER
+returns-then-x-gt-GREATEST_POWER c = sym (round_none c.args.x (λ p. omega arith))
 
 pub overflow_sub-result-2 : goal.overflow_sub-result-2
 overflow_sub-result-2 c = leading_le 64 (c.args.x - 1)

@@ -1,8 +1,5 @@
 -- `worked::fill` keeps the slices' lengths. Assumes nothing.
-use borrow.Author.Rules.{rules}
-use mathlib.Core.Path.{◌≡◌, ◌∙◌}
-use Prim.Native.Nat.{◌-◌}
-use lib.ListN.{length}
+use mathlib.Core.Path.{◌∙◌}
 use Rattle.worked.proofs.fill.Goals as goal
 
 pub loop-j-preserved : goal.loop-j-preserved

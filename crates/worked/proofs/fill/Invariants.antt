@@ -1,6 +1,5 @@
 -- `worked::fill` keeps the slices' lengths. Assumes nothing.
-use borrow.Author.Rules.{rules}
-use mathlib.Core.Path.{◌≡◌, ◌∙◌}
+use mathlib.Core.Path.{◌≡◌}
 use Prim.Native.Nat.{◌-◌}
 use lib.ListN.{length}
 use Rattle.worked.proofs.fill.Given as goal

@@ -1,5 +1,4 @@
 -- `worked::inserts` reads inside its pairs and keeps the slices' lengths. Assumes nothing.
-use borrow.Author.Rules.{rules}
 use mathlib.Core.Path.{◌≡◌}
 use Prim.Native.Nat.{◌-◌, ◌*◌, ◌^◌, ◌≤◌, ◌<◌}
 use lib.ListN.{length}

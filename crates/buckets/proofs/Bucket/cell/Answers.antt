@@ -1,7 +1,6 @@
 -- `buckets::Bucket::cell` meets its contract. Assumes nothing.
 use native.Mathlib.Omega.{arith}
 use borrow.Author.Tests.{lt-ltb, le-ltb}
-use borrow.Author.Rules.{rules}
 use Rattle.buckets.specs.Buckets.{reading}
 use Rattle.buckets.proofs.Bucket.cell.Goals as goal
 

@@ -1,7 +1,6 @@
 -- `buckets::Bucket::with_cell` meets its contract. Assumes nothing.
 use native.Mathlib.Omega.{arith}
 use borrow.Author.Tests.{lt-ltb, le-ltb}
-use borrow.Author.Rules.{rules}
 use Rattle.buckets.specs.Buckets.{changing}
 use Rattle.buckets.proofs.Bucket.with_cell.Goals as goal
 

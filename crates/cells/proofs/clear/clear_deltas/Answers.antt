@@ -1,5 +1,5 @@
 -- `cells::clear::clear_deltas` meets its contract. Assumes nothing.
-use Rattle.std.proofs.Common.{◌≡◌, ℕ, ◌+◌, ◌-◌, ◌≤◌, List, ◌++◌, length, drop, set, replicate, refl, ap, ◌∙◌, append-nil, arith, length-set, rules}
+use Rattle.std.proofs.Common.{◌≡◌, ℕ, List, ◌++◌, length, drop, set, replicate, refl, ap, ◌∙◌, append-nil, arith, length-set, rules}
 use borrow.Author.Fill.{fill_none, fill_more}
 use lib.Seq.{drop-length}
 use Rattle.cells.proofs.clear.clear_deltas.Goals as goal

@@ -1,7 +1,5 @@
 -- `cells::clear::clear_deltas` meets its contract. Assumes nothing.
-use Rattle.std.proofs.Common.{◌≡◌, ℕ, ◌+◌, ◌-◌, ◌≤◌, List, ◌++◌, length, drop, set, replicate, refl, ap, ◌∙◌, append-nil, arith, length-set, rules}
-use borrow.Author.Fill.{fill_none, fill_more}
-use lib.Seq.{drop-length}
+use Rattle.std.proofs.Common.{◌≡◌, ◌-◌, ◌≤◌, ◌++◌, length, drop, replicate}
 use Rattle.cells.proofs.clear.clear_deltas.Given as goal
 
 abbrev pub invariant-loop-i : goal.invariant-loop-i

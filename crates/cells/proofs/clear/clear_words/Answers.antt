@@ -1,5 +1,5 @@
 -- `cells::clear::clear_words` meets its contract. Assumes nothing.
-use Rattle.std.proofs.Common.{◌≡◌, ℕ, ◌+◌, ◌-◌, ◌*◌, ◌≤◌, ◌++◌, length, drop, refl, ap, ◌∙◌, arith, rules}
+use Rattle.std.proofs.Common.{◌≡◌, ℕ, ◌*◌, ◌++◌, drop, refl, ap, ◌∙◌, arith, rules}
 use Rattle.cells.specs.Layout.{fresh_words}
 use Rattle.cells.proofs.Clearing.{fresh_none, fresh_more, fresh_all}
 use Rattle.cells.proofs.clear.clear_words.Goals as goal

@@ -1,7 +1,6 @@
 -- `cells::clear::clear_words` meets its contract. Assumes nothing.
-use Rattle.std.proofs.Common.{◌≡◌, ℕ, ◌+◌, ◌-◌, ◌*◌, ◌≤◌, ◌++◌, length, drop, refl, ap, ◌∙◌, arith, rules}
+use Rattle.std.proofs.Common.{◌≡◌, ◌-◌, ◌*◌, ◌≤◌, ◌++◌, length, drop}
 use Rattle.cells.specs.Layout.{fresh_words}
-use Rattle.cells.proofs.Clearing.{fresh_none, fresh_more, fresh_all}
 use Rattle.cells.proofs.clear.clear_words.Given as goal
 
 abbrev pub invariant-loop-i : goal.invariant-loop-i

@@ -1,5 +1,5 @@
 -- `cells::insert::insert_home` meets its contract. Assumes nothing.
-use Rattle.std.proofs.Common.{refl, rules}
+use Rattle.std.proofs.Common.{refl}
 use Rattle.steps.proofs.Branches.{settle_new, settle_new_out}
 use Rattle.cells.proofs.Doing.{did, left_all}
 use Rattle.cells.proofs.Placing.{settled}

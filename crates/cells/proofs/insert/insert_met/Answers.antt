@@ -1,5 +1,5 @@
 -- `cells::insert::insert_met` meets its contract. Assumes nothing.
-use Rattle.std.proofs.Common.{refl, ◌∙◌, rules}
+use Rattle.std.proofs.Common.{refl, ◌∙◌}
 use Rattle.steps.proofs.Branches.{met_removed, met_live, settle_revived, settle_revived_out}
 use Rattle.cells.proofs.Doing.{did, left_all}
 use Rattle.cells.proofs.Placing.{met_cell}

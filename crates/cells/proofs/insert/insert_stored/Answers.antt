@@ -1,5 +1,4 @@
 -- `cells::insert::insert_stored` meets its contract. Assumes nothing.
-use Rattle.std.proofs.Common.{rules}
 use Rattle.steps.proofs.Sizes.{size_greatest}
 use Rattle.steps.proofs.Branches.{stored_home}
 use Rattle.cells.proofs.Shapes.{in_words, taken_there}

@@ -1,5 +1,5 @@
 -- `cells::insert::insert_tail` meets its contract. Assumes nothing.
-use Rattle.std.proofs.Common.{refl, ap, arith, rules}
+use Rattle.std.proofs.Common.{refl, ap, arith}
 use Rattle.steps.proofs.Sizes.{size_least, size_greatest}
 use Rattle.cells.specs.Workers.{hit_of}
 use Rattle.cells.proofs.Shapes.{in_words}

@@ -1,5 +1,5 @@
 -- `cells::insert::insert_walked` meets its contract. Assumes nothing.
-use Rattle.std.proofs.Common.{refl, ap, arith, rules}
+use Rattle.std.proofs.Common.{refl, ap, arith}
 use Rattle.steps.proofs.Sizes.{size_least, size_greatest}
 use Rattle.steps.proofs.Walking.{ends_most}
 use Rattle.steps.proofs.Branches.{stored_met, stored_tail, stored_broken}

@@ -1,5 +1,5 @@
 -- `cells::insert::link` meets its contract. Assumes nothing.
-use Rattle.std.proofs.Common.{rules, eq-eqb, ne_eqb}
+use Rattle.std.proofs.Common.{eq-eqb, ne_eqb}
 use Rattle.cells.proofs.Shapes.{cell_lt, deltas_hold}
 use Rattle.cells.proofs.insert.link.Goals as goal
 

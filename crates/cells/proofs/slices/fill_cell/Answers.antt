@@ -1,5 +1,5 @@
 -- `cells::slices::fill_cell` meets its contract. Assumes nothing.
-use Rattle.std.proofs.Common.{arith, length-set, rules}
+use Rattle.std.proofs.Common.{arith, length-set}
 use Rattle.cells.proofs.slices.fill_cell.Goals as goal
 
 pub bounds-words-i-2 : goal.bounds-words-i-2

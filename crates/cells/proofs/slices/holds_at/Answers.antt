@@ -1,5 +1,5 @@
 -- `cells::slices::holds_at` meets its contract. Assumes nothing.
-use Rattle.std.proofs.Common.{sym, ◌∙◌, rules, eq-eqb, ne_eqb}
+use Rattle.std.proofs.Common.{sym, ◌∙◌, eq-eqb, ne_eqb}
 use Rattle.cells.proofs.slices.holds_at.Goals as goal
 
 pub returns-then-hash_at-hash : goal.returns-then-hash_at-hash

@@ -1,5 +1,5 @@
 -- `cells::slices::is_live` meets its contract. Assumes nothing.
-use Rattle.std.proofs.Common.{◌≡◌, ℕ, Bool, false, not, ◌&&◌, eqb, sym, ◌∙◌, rules, eq-eqb, ne_eqb}
+use Rattle.std.proofs.Common.{◌≡◌, ℕ, Bool, false, not, ◌&&◌, eqb, sym, ◌∙◌, eq-eqb, ne_eqb}
 use Rattle.cells.specs.Layout.{null}
 use Rattle.cells.proofs.slices.is_live.Goals as goal
 

@@ -1,8 +1,7 @@
 -- `cells::walk::probe_from` meets its contract: at each turn the probe is what is left of it. Assumes nothing.
-use Rattle.std.proofs.Common.{◌+◌, ◌-◌, rules}
-use Rattle.steps.proofs.Probing.{Probing, probing_start, probing_end, probing_free, probing_on}
+use Rattle.std.proofs.Common.{◌+◌, ◌-◌}
+use Rattle.steps.proofs.Probing.{Probing}
 use Rattle.cells.specs.Layout.{hash_in}
-use Rattle.cells.proofs.Shapes.{words_hold, cell_lt}
 use Rattle.cells.proofs.walk.probe_from.Given as goal
 
 abbrev pub invariant-loop-d : goal.invariant-loop-d

@@ -1,8 +1,7 @@
 -- `cells::walk::walk_to` meets its contract: at each turn the walk is what is left of it. Assumes nothing.
-use Rattle.std.proofs.Common.{◌-◌, sym, ◌∙◌, arith, rules}
+use Rattle.std.proofs.Common.{sym, ◌∙◌, arith}
 use Rattle.steps.proofs.Sizes.{size_least, size_greatest}
-use Rattle.steps.proofs.Walking.{Going, home_met, going_start, going_tail, going_broken, going_met, going_link}
-use Rattle.cells.specs.Layout.{view}
+use Rattle.steps.proofs.Walking.{home_met, going_start, going_tail, going_broken, going_met, going_link}
 use Rattle.cells.proofs.Shapes.{in_words, in_deltas}
 use Rattle.cells.proofs.walk.walk_to.Goals as goal
 

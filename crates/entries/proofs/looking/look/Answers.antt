@@ -1,6 +1,5 @@
 -- `entries::looking::look` meets its contract. Assumes nothing.
-use borrow.Author.Rules.{rules}
-use mathlib.Core.Path.{sym, ap, ◌∙◌}
+use Rattle.std.proofs.Common.{◌≡◌, ◌≢◌, sym, ap, ◌∙◌, rules}
 use Rattle.entries.specs.Workers.{other_hash, not_occupied, lost, gone}
 use Rattle.entries.specs.Answers.{place_of}
 use Rattle.entries.proofs.Using.{held_in}
@@ -17,20 +16,25 @@ returns-then-value c = (λ z. c.if-hash-eq0.false (c.hash_of-hash.ensures ∙ z)
 
 pub returns-then-holds_at : goal.returns-then-holds_at
 returns-then-holds_at c =
+    let own : c.args.entry.hash ≡ c.hash_of-hash.result = search rules in
     record {
       some = λ z. c.if-hash-eq0.false (c.hash_of-hash.ensures ∙ z);
-      own = c.if-entry-hash.true ∙ c.hash_of-hash.ensures;
+      own = own ∙ c.hash_of-hash.ensures;
       at = ap place_of c.in-Occupied.is;
-      holds = rw c.if-entry-hash.true (sym c.holds_at.ensures ∙ c.if-holds_at.true);
+      holds = rw own (sym c.holds_at.ensures ∙ c.if-holds_at.true);
       value = c.value_at-value.ensures;
       live = c.if-value.false;
     }
 
 pub returns-in-Occupied : goal.returns-in-Occupied
-returns-in-Occupied c = (λ z. c.if-hash-eq0.false (c.hash_of-hash.ensures ∙ z), lost _ (ap place_of c.in-Occupied.is) (rw c.if-entry-hash.true (sym c.holds_at.ensures ∙ c.if-holds_at.false)))
+returns-in-Occupied c =
+    let own : c.args.entry.hash ≡ c.hash_of-hash.result = search rules in
+    (λ z. c.if-hash-eq0.false (c.hash_of-hash.ensures ∙ z), lost _ (ap place_of c.in-Occupied.is) (rw own (sym c.holds_at.ensures ∙ c.if-holds_at.false)))
 
 pub returns-in-Vacant : goal.returns-in-Vacant
 returns-in-Vacant c = (λ z. c.if-hash-eq0.false (c.hash_of-hash.ensures ∙ z), not_occupied (ap place_of c.in-Vacant.is))
 
 pub returns : goal.returns
-returns c = (λ z. c.if-hash-eq0.false (c.hash_of-hash.ensures ∙ z), other_hash (λ q. c.if-entry-hash.false (q ∙ sym c.hash_of-hash.ensures)))
+returns c =
+    let other : c.args.entry.hash ≢ c.hash_of-hash.result = search rules in
+    (λ z. c.if-hash-eq0.false (c.hash_of-hash.ensures ∙ z), other_hash (λ q. other (q ∙ sym c.hash_of-hash.ensures)))

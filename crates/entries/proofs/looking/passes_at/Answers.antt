@@ -1,5 +1,4 @@
 -- `entries::looking::passes_at` meets its contract. Assumes nothing.
-use borrow.Author.Rules.{rules}
 use mathlib.Core.Path.{sym, ap, ◌∙◌}
 use Rattle.entries.specs.Answers.{place_of}
 use Rattle.entries.proofs.looking.passes_at.Goals as goal

@@ -1,5 +1,4 @@
 -- `entryinsert::giving::give` meets its contract. Assumes nothing.
-use borrow.Author.Rules.{rules}
 use mathlib.Core.Path.{sym, ap, ◌∙◌}
 use Rattle.rules.specs.Entries.{Place, inserting, on_case, use_entry}
 use Rattle.cells.specs.Layout.{lent, offered_by}

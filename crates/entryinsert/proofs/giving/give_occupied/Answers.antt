@@ -1,5 +1,4 @@
 -- `entryinsert::giving::give_occupied` meets its contract. Assumes nothing.
-use borrow.Author.Rules.{rules}
 use mathlib.Core.Path.{ap, ◌∙◌}
 use Rattle.rules.specs.Entries.{used_at}
 use Rattle.steps.proofs.Branches.{settle_replaced}

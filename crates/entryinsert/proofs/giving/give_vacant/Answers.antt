@@ -1,5 +1,4 @@
 -- `entryinsert::giving::give_vacant` meets its contract. Assumes nothing.
-use borrow.Author.Rules.{rules}
 use mathlib.Core.Path.{sym, ap, ◌∙◌}
 use Prim.Native.Nat.{ℕ}
 use Rattle.rules.specs.Entries.{inserting}

@@ -1,5 +1,4 @@
 -- `entryinsert::vacant::insert_after` meets its contract. Assumes nothing.
-use borrow.Author.Rules.{rules}
 use Rattle.steps.proofs.Sizes.{size_greatest}
 use Rattle.steps.proofs.Branches.{stored_home}
 use Rattle.cells.proofs.Shapes.{in_words, taken_there}

@@ -1,5 +1,4 @@
 -- `entryinsert::vacant::is_found` meets its contract. Assumes nothing.
-use borrow.Author.Rules.{rules}
 use mathlib.Core.Path.{ap}
 use Rattle.cells.specs.Layout.{value_in}
 use Rattle.cells.specs.Workers.{stop_of}

@@ -1,5 +1,4 @@
 -- `entryinsert::vacant::put` meets its contract. Assumes nothing.
-use borrow.Author.Rules.{rules}
 use mathlib.Core.Path.{sym, ◌∙◌}
 use Rattle.entryinsert.proofs.Placing.{put_stale, put_inserted}
 use Rattle.entryinsert.proofs.vacant.put.Goals as goal

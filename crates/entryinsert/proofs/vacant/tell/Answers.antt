@@ -1,5 +1,4 @@
 -- `entryinsert::vacant::tell` meets its contract. Assumes nothing.
-use borrow.Author.Rules.{rules}
 use mathlib.Core.Path.{sym, ap}
 use Rattle.cells.specs.Workers.{insert_said, place_by}
 use Rattle.cells.specs.declared.insert.InsertSaid.{InsertSaid}

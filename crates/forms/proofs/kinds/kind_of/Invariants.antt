@@ -1,5 +1,5 @@
 -- `forms::kinds::kind_of` meets its contract. Assumes nothing.
-use Rattle.std.proofs.Common.{◌-◌, rules}
+use Rattle.std.proofs.Common.{◌-◌}
 use Rattle.forms.proofs.kinds.kind_of.Given as goal
 
 abbrev pub invariant-loop-kind : goal.invariant-loop-kind

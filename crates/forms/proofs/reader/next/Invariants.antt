@@ -1,5 +1,5 @@
 -- `forms::reader::next` meets its contract. Assumes nothing.
-use Rattle.std.proofs.Common.{◌≡◌, length, rules}
+use Rattle.std.proofs.Common.{◌≡◌, length}
 use Rattle.forms.proofs.reader.next.Given as goal
 
 abbrev pub invariant-loop-turns : goal.invariant-loop-turns

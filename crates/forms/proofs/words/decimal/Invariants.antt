@@ -1,5 +1,5 @@
 -- `forms::words::decimal` meets its contract. Assumes nothing.
-use Rattle.std.proofs.Common.{◌≡◌, ◌-◌, length, rules}
+use Rattle.std.proofs.Common.{◌≡◌, ◌-◌, length}
 use Rattle.forms.proofs.words.decimal.Given as goal
 
 abbrev pub invariant-loop-i : goal.invariant-loop-i

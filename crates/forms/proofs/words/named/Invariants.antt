@@ -1,5 +1,5 @@
 -- `forms::words::named` meets its contract. Assumes nothing.
-use Rattle.std.proofs.Common.{◌-◌, rules}
+use Rattle.std.proofs.Common.{◌-◌}
 use Rattle.forms.proofs.words.named.Given as goal
 
 abbrev pub invariant-loop-i : goal.invariant-loop-i

@@ -1,5 +1,5 @@
 -- `forms::words::trimmed` meets its contract. Assumes nothing.
-use Rattle.std.proofs.Common.{◌≤◌, length, rules}
+use Rattle.std.proofs.Common.{◌≤◌, length}
 use Rattle.forms.proofs.words.trimmed.Given as goal
 
 abbrev pub invariant-loop-n : goal.invariant-loop-n

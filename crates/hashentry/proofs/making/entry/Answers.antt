@@ -1,5 +1,4 @@
 -- `hashentry::making::entry` meets its contract. Assumes nothing.
-use borrow.Author.Rules.{rules}
 use mathlib.Core.Path.{sym, ◌∙◌}
 use Rattle.steps.proofs.Branches.{shape_fails, shape_passes}
 use Rattle.cells.specs.Layout.{lent}

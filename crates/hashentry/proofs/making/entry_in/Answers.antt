@@ -1,5 +1,4 @@
 -- `hashentry::making::entry_in` meets its contract. Assumes nothing.
-use borrow.Author.Rules.{rules}
 use mathlib.Core.Path.{ap}
 use Rattle.cells.specs.Workers.{stop_of}
 use Rattle.cells.proofs.Shapes.{in_words}

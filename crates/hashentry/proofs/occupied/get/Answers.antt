@@ -1,5 +1,4 @@
 -- `hashentry::occupied::get` meets its contract. Assumes nothing.
-use borrow.Author.Rules.{rules}
 use mathlib.Core.Path.{refl, sym, ap, ◌∙◌}
 use Rattle.rules.specs.Entries.{reading}
 use Rattle.rules.specs.Answers.{Outcome}

@@ -1,5 +1,4 @@
 -- `hashentry::occupied::remove` meets its contract. Assumes nothing.
-use borrow.Author.Rules.{rules}
 use mathlib.Core.Path.{refl, sym, ◌∙◌}
 use Rattle.rules.specs.Entries.{removing}
 use Rattle.steps.proofs.Branches.{settle_removed, settle_removed_out}

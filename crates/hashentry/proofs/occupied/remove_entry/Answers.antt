@@ -1,5 +1,4 @@
 -- `hashentry::occupied::remove_entry` meets its contract. Assumes nothing.
-use borrow.Author.Rules.{rules}
 use mathlib.Core.Path.{ap}
 use Rattle.hashentry.specs.Answers.{with_key}
 use Rattle.hashentry.proofs.occupied.remove_entry.Goals as goal

@@ -1,5 +1,4 @@
 -- `hashentry::occupied::replace` meets its contract. Assumes nothing.
-use borrow.Author.Rules.{rules}
 use mathlib.Core.Path.{refl, sym, ap, ◌∙◌}
 use Rattle.rules.specs.Entries.{replacing}
 use Rattle.steps.proofs.Branches.{settle_replaced}

@@ -1,5 +1,4 @@
 -- `hashers::fnv_byte` meets its contract. Assumes nothing.
-use borrow.Author.Rules.{rules}
 use Rattle.hashers.specs.Published.{fnv_byte}
 use Rattle.hashers.proofs.fnv.fnv_byte.Goals as goal
 

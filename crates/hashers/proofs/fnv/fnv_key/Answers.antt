@@ -1,7 +1,7 @@
 -- `hashers::fnv_key` meets its contract: the bytes that are left, from the state reached, give the whole. Assumes nothing.
 use borrow.Author.Rules.{rules}
 use mathlib.Core.Path.{◌≡◌, sym, ap, ◌∙◌}
-use Prim.Native.Nat.{ℕ, ◌+◌, ◌-◌, ◌/◌, ◌≤◌}
+use Prim.Native.Nat.{ℕ, ◌+◌, ◌-◌, ◌/◌}
 use native.Mathlib.Omega.{arith}
 use Rattle.util.specs.Bytes.{bytes_of}
 use Rattle.hashers.specs.Published.{fnv1a}

@@ -1,12 +1,8 @@
 -- `hashers::fnv_key` meets its contract: the bytes that are left, from the state reached, give the whole. Assumes nothing.
-use borrow.Author.Rules.{rules}
-use mathlib.Core.Path.{◌≡◌, sym, ap, ◌∙◌}
-use Prim.Native.Nat.{ℕ, ◌+◌, ◌-◌, ◌/◌, ◌≤◌}
-use native.Mathlib.Omega.{arith}
+use mathlib.Core.Path.{◌≡◌}
+use Prim.Native.Nat.{◌-◌, ◌≤◌}
 use Rattle.util.specs.Bytes.{bytes_of}
 use Rattle.hashers.specs.Published.{fnv1a}
-use Rattle.hashers.specs.Keys.{hash_of}
-use Rattle.hashers.proofs.Mixing.{fnv_next_of_key}
 use Rattle.hashers.proofs.fnv.fnv_key.Given as goal
 
 abbrev pub invariant-loop-i : goal.invariant-loop-i

@@ -1,5 +1,4 @@
 -- `hashers::murmur::fmix` meets its contract. Assumes nothing.
-use borrow.Author.Rules.{rules}
 use Rattle.hashers.specs.Published.{fmix64, fold33}
 use Rattle.hashers.proofs.murmur.fmix.Goals as goal
 

@@ -4,7 +4,6 @@ use Rattle.steps.proofs.Branches.{shape_fails, shape_passes}
 use Rattle.cells.specs.Layout.{lent}
 use Rattle.cells.proofs.Shapes.{passed}
 use Rattle.hashiter.proofs.Stepping.{step_shape, step_passed}
-use borrow.Author.Rules.{rules}
 use Rattle.hashiter.proofs.Cursor.step.Goals as goal
 
 pub step_in-requires : goal.step_in-requires

@@ -1,5 +1,4 @@
 -- `kept::show::cells` meets its contract. Assumes nothing.
-use borrow.Author.Rules.{rules}
 use Prim.Native.Nat.{◌-◌}
 use Rattle.kept.proofs.show.cells.Given as goal
 

@@ -1,5 +1,4 @@
 -- `parts::internal::are_halves` meets its contract. Assumes nothing.
-use borrow.Author.Rules.{rules}
 use mathlib.Core.Path.{sym, ◌∙◌}
 use Rattle.parts.specs.Halves.{are_halves}
 use Rattle.parts.proofs.internal.are_halves.Goals as goal

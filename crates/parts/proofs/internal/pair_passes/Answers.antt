@@ -1,5 +1,4 @@
 -- `parts::internal::pair_passes` meets its contract. Assumes nothing.
-use borrow.Author.Rules.{rules}
 use mathlib.Core.Path.{sym, ◌∙◌}
 use Rattle.parts.proofs.internal.pair_passes.Goals as goal
 

@@ -1,5 +1,4 @@
 -- `parts::internal::record_fits` meets its contract. Assumes nothing.
-use borrow.Author.Rules.{rules}
 use mathlib.Core.Path.{sym, ◌∙◌}
 use Rattle.parts.specs.Halves.{record_fits}
 use Rattle.parts.proofs.internal.record_fits.Goals as goal

@@ -1,5 +1,4 @@
 -- `parts::internal::size_fits` meets its contract. Assumes nothing.
-use borrow.Author.Rules.{rules}
 use mathlib.Core.Path.{sym, ◌∙◌}
 use Rattle.parts.specs.Halves.{size_fits}
 use Rattle.parts.proofs.internal.size_fits.Goals as goal

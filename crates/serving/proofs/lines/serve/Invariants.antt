@@ -1,5 +1,5 @@
 -- `serving::lines::serve` meets its contract. Assumes nothing.
-use Rattle.std.proofs.Common.{◌≡◌, ◌-◌, length, rules}
+use Rattle.std.proofs.Common.{◌≡◌, length}
 use Rattle.serving.proofs.lines.serve.Given as goal
 
 abbrev pub invariant-loop-turns : goal.invariant-loop-turns

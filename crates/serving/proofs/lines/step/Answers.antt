@@ -1,5 +1,4 @@
 -- `serving::lines::step` meets its contract. Assumes nothing.
-use Rattle.std.proofs.Common.{rules}
 use Rattle.serving.proofs.lines.step.Goals as goal
 
 pub shape_of-input-then-reader : goal.shape_of-input-then-reader

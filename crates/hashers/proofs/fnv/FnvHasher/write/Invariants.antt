@@ -1,12 +1,8 @@
 -- `hashers::FnvHasher::write` meets its contract: what is left, from the state reached, gives the whole. Assumes nothing.
-use borrow.Author.Rules.{rules}
-use mathlib.Core.Path.{◌≡◌, sym, ap, ◌∙◌}
-use Prim.Native.Nat.{ℕ, ◌+◌, ◌-◌, ◌≤◌}
-use native.Mathlib.Omega.{arith}
+use mathlib.Core.Path.{◌≡◌}
+use Prim.Native.Nat.{◌-◌, ◌≤◌}
 use lib.ListN.{length, drop}
-use lib.Seq.{drop-length}
 use Rattle.hashers.specs.Published.{fnv1a}
-use Rattle.hashers.proofs.Mixing.{fnv_next}
 use Rattle.hashers.proofs.fnv.FnvHasher.write.Given as goal
 
 abbrev pub invariant-loop-i : goal.invariant-loop-i

@@ -1,5 +1,4 @@
 -- `hashers::MurmurHasher::write` meets its contract. Assumes nothing.
-use borrow.Author.Rules.{rules}
 use mathlib.Core.Path.{sym, ap, ◌∙◌}
 use Rattle.util.specs.Bytes.{said}
 use Rattle.hashers.specs.Published.{fmix64}

@@ -1,5 +1,4 @@
 -- `hashers::SimpleHasher::write` meets its contract. Assumes nothing.
-use borrow.Author.Rules.{rules}
 use mathlib.Core.Path.{sym, ap, ◌∙◌}
 use Rattle.util.specs.Bytes.{said}
 use Rattle.hashers.proofs.Replaced.{of_number, of_length}
