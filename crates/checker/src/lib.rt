@@ -107,7 +107,7 @@ fn empty_ok(words: &[u64], deltas: &[u8], size: usize, i: usize) -> bool
 }
 
 // A cell at its own home has second delta 0.
-#[tactic(auto, unfolding(crate::specs::Check::home_test))]
+#[tactic(auto, using(cells::proofs::Shapes::cell_lt), unfolding(crate::specs::Check::home_test))]
 fn home_ok(deltas: &[u8], size: usize, i: usize, hash: u64) -> bool
     requires { (is_size size ≡ true) × (second_at i < length deltas.now) }
     ensures { result ≡ home_test size i hash (slice_index deltas.now (second_at i)) }

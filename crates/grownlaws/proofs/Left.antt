@@ -100,12 +100,12 @@ module _ (s : Four) (g : Growing) (k v : ℕ) (r : GrowAnswer) (s' : Four) (m : 
   deltas_in_use =
       (λ i. of_half o.half (lower_deltas_is s g k v r s' m i) (upper_deltas_is s g k v r s' m i)) ∙ used_deltas_lem C o.used o.spare s.lower_deltas s.upper_deltas o.half
 
-  spare_words_length : words_of (other_half o.half) s' ≡ words_become C o.spare (words_of (other_half o.half) s)
-  spare_words_length =
+  spare_words_become : words_of (other_half o.half) s' ≡ words_become C o.spare (words_of (other_half o.half) s)
+  spare_words_become =
       (λ i. of_half (other_half o.half) (lower_words_is s g k v r s' m i) (upper_words_is s g k v r s' m i)) ∙ other_words C o.used o.spare s.lower_words s.upper_words o.half
 
-  spare_deltas_length : deltas_of (other_half o.half) s' ≡ deltas_become C o.spare (deltas_of (other_half o.half) s)
-  spare_deltas_length =
+  spare_deltas_become : deltas_of (other_half o.half) s' ≡ deltas_become C o.spare (deltas_of (other_half o.half) s)
+  spare_deltas_become =
       (λ i. of_half (other_half o.half) (lower_deltas_is s g k v r s' m i) (upper_deltas_is s g k v r s' m i)) ∙ other_deltas C o.used o.spare s.lower_deltas s.upper_deltas o.half
 
   -- the record handed back is the one that was lent, where the rule's is
@@ -166,8 +166,8 @@ module _ (s : Four) (g : Growing) (k v : ℕ) (r : GrowAnswer) (s' : Four) (m : 
       × (r.moves ≡ 0)
   no_full_leaves_spare n =
       let a = no_full_as_insert (lent_on s g) k v n in (
-        rw (a.half, a.spare) at spare_words_length,
-        rw (a.half, a.spare) at spare_deltas_length,
+        rw (a.half, a.spare) at spare_words_become,
+        rw (a.half, a.spare) at spare_deltas_become,
         sym (half_back r.growing.half) ∙ ap unhalf (half_is s g k v r s' m ∙ a.half) ∙ half_back g.half,
         size_is s g k v r s' m ∙ a.size,
         moves_is s g k v r s' m ∙ ap length a.moves,
@@ -190,6 +190,6 @@ module _ (s : Four) (g : Growing) (k v : ℕ) (r : GrowAnswer) (s' : Four) (m : 
         × (deltas_of (other_half (half_of r.growing.half)) s' ≡ fresh_deltas (size_in s.lower_deltas))
     tried_leaves_spare_clear u =
         let q = tried_clears (lent_on s g) (lent_halves_lem s g) k v full u in (
-          rw (half_is s g k v r s' m) (spare_words_length ∙ ap (λ (y : Became). words_become C y (words_of (other_half o.half) s)) q),
-          rw (half_is s g k v r s' m) (spare_deltas_length ∙ ap (λ (y : Became). deltas_become C y (deltas_of (other_half o.half) s)) q),
+          rw (half_is s g k v r s' m) (spare_words_become ∙ ap (λ (y : Became). words_become C y (words_of (other_half o.half) s)) q),
+          rw (half_is s g k v r s' m) (spare_deltas_become ∙ ap (λ (y : Became). deltas_become C y (deltas_of (other_half o.half) s)) q),
         )

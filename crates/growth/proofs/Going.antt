@@ -127,8 +127,8 @@ pub record MovedTo (cells : ℕ) (hasher : Hasher) (h k v size live : ℕ) (ws d
   pub fills : List Change
   pub words : x.words ≡ fresh_words cells
   pub deltas : x.deltas ≡ fresh_deltas cells
-  pub spare_words_length : x.spare_words ≡ words_after_all fills (fresh_words cells)
-  pub spare_deltas_length : x.spare_deltas ≡ deltas_after_all fills (fresh_deltas cells)
+  pub spare_words_filled : x.spare_words ≡ words_after_all fills (fresh_words cells)
+  pub spare_deltas_filled : x.spare_deltas ≡ deltas_after_all fills (fresh_deltas cells)
   pub halved : Halved x.spare_words x.spare_deltas x.words x.deltas cells T
   pub rest : rounds_from cells hasher h k v (suc left) (round_at size half live ws ds used spare)
       ≡ with_move T (rounds_from cells hasher h k v left (round_at T (other_half half) live x.spare_words x.spare_deltas (cleared fills) (cleared [])))
@@ -188,8 +188,8 @@ module _ (cells : ℕ) (hasher : Hasher) (h k v size live : ℕ) (ws ds sws sds 
           fills = fills;
           words = refl;
           deltas = refl;
-          spare_words_length = refl;
-          spare_deltas_length = refl;
+          spare_words_filled = refl;
+          spare_deltas_filled = refl;
           halved =
               record {
                 size = sized;
