@@ -119,8 +119,8 @@ module _ (cells : ℕ) (hasher : Hasher) (h k v live : ℕ) (whole : GrowOutcome
           spare = cleared [];
           lower_words_lem = m.words;
           lower_deltas_lem = m.deltas;
-          upper_words_lem = m.spare_words_length;
-          upper_deltas_lem = m.spare_deltas_length;
+          upper_words_lem = m.spare_words_filled;
+          upper_deltas_lem = m.spare_deltas_filled;
           same = after rule.lower g ∙ ap (λ (o : GrowOutcome). moved_on count (grew_from cells o lws₀ lds₀ uws₀ uds₀)) m.rest ∙ counted T _;
           sides = m.halved;
           enough = m.enough;
@@ -139,8 +139,8 @@ module _ (cells : ℕ) (hasher : Hasher) (h k v live : ℕ) (whole : GrowOutcome
           left = n.0;
           used = cleared m.fills;
           spare = cleared [];
-          lower_words_lem = m.spare_words_length;
-          lower_deltas_lem = m.spare_deltas_length;
+          lower_words_lem = m.spare_words_filled;
+          lower_deltas_lem = m.spare_deltas_filled;
           upper_words_lem = m.words;
           upper_deltas_lem = m.deltas;
           same = after rule.upper g ∙ ap (λ (o : GrowOutcome). moved_on count (grew_from cells o lws₀ lds₀ uws₀ uds₀)) m.rest ∙ counted T _;
