@@ -16,14 +16,14 @@ def needed(lines, wanted):
 def copied(room, wanted, more=''):
     """Copies the sources and proofs of these crates and of those below them, with a crates.txt for them and a line more. Their
     names. What is proved here already is not proved again: rt begins with what checks of the same text kept on this machine."""
-    lines = dict(line.strip().split(':', 1) for line in open(f'{TOP}/crates.txt') if ':' in line and not line.startswith('#'))
-    crates = needed(lines, wanted)
+    whole = {line.split(':')[0].split()[0]: line for line in open(f'{TOP}/crates.txt') if ':' in line and not line.startswith('#')}
+    crates = needed({name: line.split(':', 1)[1] for name, line in whole.items()}, wanted)
     with open(f'{room}/crates.txt', 'w') as out:
         for name in crates:
             for part in 'src', 'specs', 'proofs':
                 if os.path.isdir(f'{TOP}/crates/{name}/{part}'):
                     shutil.copytree(f'{TOP}/crates/{name}/{part}', f'{room}/crates/{name}/{part}')
-            out.write(f'{name}:{lines[name]}\n')
+            out.write(whole[name])
         out.write(more.format(' '.join(crates)))
     return crates
 
