@@ -5,9 +5,8 @@ usage: python3 tools/respell.py [--list]      at the top of the repository
 
 It takes the names that crates/*/specs/*.antt and crates/*/proofs/*.antt define: `product-fits` and `firstOf-none` become
 `product_fits` and `first_of_none`, `isLive` becomes `is_live`; a name that begins with a capital is a type or a fact and keeps its
-spelling. It writes them so in every .antt file, in the clauses of every .rt file and in every must-fail edit. Edits are not turned
-by port.py, so their old names are also taken to those that port.py gave: MORE names them. --list prints what changes and what
-falls together, and writes nothing.
+spelling. It writes them so in every .antt file, in the clauses of every .rt file and in every must-fail edit. --list prints what
+changes and what falls together, and writes nothing.
 """
 
 import collections
