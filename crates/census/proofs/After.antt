@@ -71,18 +71,18 @@ module _ (lw ld uw ud : List ℕ) (g : Growing) (k v : ℕ) where
       → held_in (words_become C o.used (of_half x lw uw)) (deltas_become C o.used (of_half x ld ud)) ≡ held_become (clear_held C) o.used (held_in (of_half x lw uw) (of_half x ld ud))
   holds e rule.lower =
       let p = halves_hold lw ld uw ud e in
-      held_become_lem C lw ld p.size p.lower_words_lem p.lower_deltas_lem o.used (grow_within l (lent_halves_lem (four lw ld uw ud) g) k v)
+      held_become_lem C lw ld p.size p.lower_words_length p.lower_deltas_length o.used (grow_within l (lent_halves_lem (four lw ld uw ud) g) k v)
   holds e rule.upper =
       let p = halves_hold lw ld uw ud e in
-      held_become_lem C uw ud p.size p.upper_words_lem p.upper_deltas_lem o.used (grow_within l (lent_halves_lem (four lw ld uw ud) g) k v)
+      held_become_lem C uw ud p.size p.upper_words_length p.upper_deltas_length o.used (grow_within l (lent_halves_lem (four lw ld uw ud) g) k v)
 
   past : are_halves lw ld uw ud ≡ true → again o ≡ grown l o
   unfolding grew_from
   past e =
       let p = halves_hold lw ld uw ud e in
-      let d = deltas_length C below ld p.lower_deltas_lem in
+      let d = deltas_length C below ld p.lower_deltas_length in
       let s = same_lengths lw ld uw ud (words_become C below lw) (deltas_become C below ld) (words_become C above uw) (deltas_become C above ud)
-      (words_length C below lw p.lower_words_lem) d (words_length C above uw p.upper_words_lem) (deltas_length C above ud p.upper_deltas_lem) in
+      (words_length C below lw p.lower_words_length) d (words_length C above uw p.upper_words_length) (deltas_length C above ud p.upper_deltas_length) in
       let h = half_again o.half in
       let a : held_in (of_half (half_of (half_in o.half)) (words_become C below lw) (words_become C above uw)) (of_half (half_of (half_in o.half)) (deltas_become C below ld) (deltas_become C above ud))
       ≡ held_in (of_half o.half (words_become C below lw) (words_become C above uw)) (of_half o.half (deltas_become C below ld) (deltas_become C above ud)) =

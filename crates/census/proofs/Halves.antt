@@ -69,10 +69,10 @@ module _ (lw ld uw ud : List ℕ) (g : Growing) (o : Outcome) where
   shaped : shape (in_use l) ≡ 0 → (h : rule.Half) → Shaped g.size (of_half h lw uw) (of_half h ld ud)
   shaped e rule.lower =
       let m = halves_hold lw ld uw ud (passed_shaped l e) in
-      record { size = passed_size l e; words = omega (arith, m.lower_words_lem, passed_most l e); deltas = omega (arith, m.lower_deltas_lem, passed_most l e) }
+      record { size = passed_size l e; words = omega (arith, m.lower_words_length, passed_most l e); deltas = omega (arith, m.lower_deltas_length, passed_most l e) }
   shaped e rule.upper =
       let m = halves_hold lw ld uw ud (passed_shaped l e) in
-      record { size = passed_size l e; words = omega (arith, m.upper_words_lem, passed_most l e); deltas = omega (arith, m.upper_deltas_lem, passed_most l e) }
+      record { size = passed_size l e; words = omega (arith, m.upper_words_length, passed_most l e); deltas = omega (arith, m.upper_deltas_length, passed_most l e) }
 
   in_use_lem : Placed (in_use l) o → changed_at (half_of g.half) ≡ held_after o.change (held_at (half_of g.half))
   in_use_lem (inl e) = held (half_of g.half) (inl e)

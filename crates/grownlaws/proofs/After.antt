@@ -59,30 +59,30 @@ module _ (lw ld uw ud : List ℕ) (g : Growing) (k v : ℕ) where
 
   -- the lengths are kept, and the half in use holds what the rule says
   record Becomes (o : GrowOutcome) : Type 0 where
-    lower_words_lem : length (words_become (size_in ld) (lower_of o.half o.used o.spare) lw) ≡ length lw
-    lower_deltas_lem : length (deltas_become (size_in ld) (lower_of o.half o.used o.spare) ld) ≡ length ld
-    upper_words_lem : length (words_become (size_in ld) (upper_of o.half o.used o.spare) uw) ≡ length uw
-    upper_deltas_lem : length (deltas_become (size_in ld) (upper_of o.half o.used o.spare) ud) ≡ length ud
+    lower_words_length : length (words_become (size_in ld) (lower_of o.half o.used o.spare) lw) ≡ length lw
+    lower_deltas_length : length (deltas_become (size_in ld) (lower_of o.half o.used o.spare) ld) ≡ length ld
+    upper_words_length : length (words_become (size_in ld) (upper_of o.half o.used o.spare) uw) ≡ length uw
+    upper_deltas_length : length (deltas_become (size_in ld) (upper_of o.half o.used o.spare) ud) ≡ length ud
     holds : (x : rule.Half) → held_in (words_become (size_in ld) o.used (of_half x lw uw)) (deltas_become (size_in ld) o.used (of_half x ld ud))
         ≡ held_become (clear_held (size_in ld)) o.used (held_in (of_half x lw uw) (of_half x ld ud))
 
   checked : (n : ℕ) → Becomes (refused_at (start l) n 0 (stays []))
   checked n =
       record {
-        lower_words_lem = ap (λ (b : Became). length (words_become (size_in ld) b lw)) (same_lower (half_of g.half) (stays []));
-        lower_deltas_lem = ap (λ (b : Became). length (deltas_become (size_in ld) b ld)) (same_lower (half_of g.half) (stays []));
-        upper_words_lem = ap (λ (b : Became). length (words_become (size_in ld) b uw)) (same_upper (half_of g.half) (stays []));
-        upper_deltas_lem = ap (λ (b : Became). length (deltas_become (size_in ld) b ud)) (same_upper (half_of g.half) (stays []));
+        lower_words_length = ap (λ (b : Became). length (words_become (size_in ld) b lw)) (same_lower (half_of g.half) (stays []));
+        lower_deltas_length = ap (λ (b : Became). length (deltas_become (size_in ld) b ld)) (same_lower (half_of g.half) (stays []));
+        upper_words_length = ap (λ (b : Became). length (words_become (size_in ld) b uw)) (same_upper (half_of g.half) (stays []));
+        upper_deltas_length = ap (λ (b : Became). length (deltas_become (size_in ld) b ud)) (same_upper (half_of g.half) (stays []));
         holds = λ x. refl;
       }
 
   past : are_halves lw ld uw ud ≡ true → Becomes o
   past e =
       record {
-        lower_words_lem = words_length (size_in ld) (lower_of o.half o.used o.spare) lw p.lower_words_lem;
-        lower_deltas_lem = deltas_length (size_in ld) (lower_of o.half o.used o.spare) ld p.lower_deltas_lem;
-        upper_words_lem = words_length (size_in ld) (upper_of o.half o.used o.spare) uw p.upper_words_lem;
-        upper_deltas_lem = deltas_length (size_in ld) (upper_of o.half o.used o.spare) ud p.upper_deltas_lem;
+        lower_words_length = words_length (size_in ld) (lower_of o.half o.used o.spare) lw p.lower_words_length;
+        lower_deltas_length = deltas_length (size_in ld) (lower_of o.half o.used o.spare) ld p.lower_deltas_length;
+        upper_words_length = words_length (size_in ld) (upper_of o.half o.used o.spare) uw p.upper_words_length;
+        upper_deltas_length = deltas_length (size_in ld) (upper_of o.half o.used o.spare) ud p.upper_deltas_length;
         holds = at;
       }
     where
@@ -94,8 +94,8 @@ module _ (lw ld uw ud : List ℕ) (g : Growing) (k v : ℕ) where
 
       at : (x : rule.Half) → held_in (words_become (size_in ld) o.used (of_half x lw uw)) (deltas_become (size_in ld) o.used (of_half x ld ud))
           ≡ held_become (clear_held (size_in ld)) o.used (held_in (of_half x lw uw) (of_half x ld ud))
-      at rule.lower = held_become_lem (size_in ld) lw ld p.size p.lower_words_lem p.lower_deltas_lem o.used within
-      at rule.upper = held_become_lem (size_in ld) uw ud p.size p.upper_words_lem p.upper_deltas_lem o.used within
+      at rule.lower = held_become_lem (size_in ld) lw ld p.size p.lower_words_length p.lower_deltas_length o.used within
+      at rule.upper = held_become_lem (size_in ld) uw ud p.size p.upper_words_length p.upper_deltas_length o.used within
 
   becomes : Becomes o
   becomes = go _ (grow_checked l k v) refl
@@ -166,14 +166,14 @@ module _ (s : Four) (g : Growing) (k v : ℕ) (r : GrowAnswer) (s' : Four) (m : 
 
   -- the halves have as many cells as before
   pub cells_kept : size_in s'.lower_deltas ≡ size_in s.lower_deltas
-  cells_kept = ap (λ (n : ℕ). n / 2) (ap length lower_deltas_is ∙ became.lower_deltas_lem)
+  cells_kept = ap (λ (n : ℕ). n / 2) (ap length lower_deltas_is ∙ became.lower_deltas_length)
 
   shaped_kept : are_halves s'.lower_words s'.lower_deltas s'.upper_words s'.upper_deltas
       ≡ are_halves s.lower_words s.lower_deltas s.upper_words s.upper_deltas
   shaped_kept =
       same_lengths s.lower_words s.lower_deltas s.upper_words s.upper_deltas s'.lower_words s'.lower_deltas s'.upper_words s'.upper_deltas
-      (ap length lower_words_is ∙ became.lower_words_lem) (ap length lower_deltas_is ∙ became.lower_deltas_lem)
-      (ap length upper_words_is ∙ became.upper_words_lem) (ap length upper_deltas_is ∙ became.upper_deltas_lem)
+      (ap length lower_words_is ∙ became.lower_words_length) (ap length lower_deltas_is ∙ became.lower_deltas_length)
+      (ap length upper_words_is ∙ became.upper_words_length) (ap length upper_deltas_is ∙ became.upper_deltas_length)
 
   -- the half in use holds what the rule says of it
   pub used_is : held_in (words_of (half_of r.growing.half) s') (deltas_of (half_of r.growing.half) s')

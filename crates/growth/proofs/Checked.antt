@@ -61,20 +61,20 @@ module _ (lws lds uws uds : List ℕ) (g : Growing) (k v : ℕ) where
             size = p.1.size;
             most = p.1.most;
             cells_size = p.0.size;
-            words = p.0.lower_words_lem;
-            deltas = p.0.lower_deltas_lem;
-            spare_words_length = p.0.upper_words_lem;
-            spare_deltas_length = p.0.upper_deltas_lem;
+            words = p.0.lower_words_length;
+            deltas = p.0.lower_deltas_length;
+            spare_words_length = p.0.upper_words_length;
+            spare_deltas_length = p.0.upper_deltas_length;
           }
       go Upper =
           record {
             size = p.1.size;
             most = p.1.most;
             cells_size = p.0.size;
-            words = p.0.upper_words_lem;
-            deltas = p.0.upper_deltas_lem;
-            spare_words_length = p.0.lower_words_lem;
-            spare_deltas_length = p.0.lower_deltas_lem;
+            words = p.0.upper_words_length;
+            deltas = p.0.upper_deltas_length;
+            spare_words_length = p.0.lower_words_length;
+            spare_deltas_length = p.0.lower_deltas_length;
           }
 
   -- a refusal leaves all

@@ -55,10 +55,10 @@ pub record Going (cells : ℕ) (hasher : Hasher) (h k v live : ℕ) (whole : Gro
   pub left : ℕ
   pub used : Became
   pub spare : Became
-  pub lower_words_lem : lws ≡ words_become cells (lower_of half used spare) lws₀
-  pub lower_deltas_lem : lds ≡ deltas_become cells (lower_of half used spare) lds₀
-  pub upper_words_lem : uws ≡ words_become cells (upper_of half used spare) uws₀
-  pub upper_deltas_lem : uds ≡ deltas_become cells (upper_of half used spare) uds₀
+  pub lower_words_become : lws ≡ words_become cells (lower_of half used spare) lws₀
+  pub lower_deltas_become : lds ≡ deltas_become cells (lower_of half used spare) lds₀
+  pub upper_words_become : uws ≡ words_become cells (upper_of half used spare) uws₀
+  pub upper_deltas_become : uds ≡ deltas_become cells (upper_of half used spare) uds₀
   pub same : grew_from cells whole lws₀ lds₀ uws₀ uds₀
       ≡ moved_on count (grew_from cells (rounds_from cells hasher h k v left (round_at size half live (of_half half lws uws) (of_half half lds uds) used spare)) lws₀ lds₀ uws₀ uds₀)
   pub sides : Sides half lws lds uws uds cells size

@@ -23,10 +23,10 @@ pub record Turning (cells h k v live size₀ : ℕ) (half₀ : rule.Half) (lws�
     (lws lds uws uds : List ℕ) : Type 0 where
   pub going : (hasher : Hasher)
       → Going cells hasher h k v live (rounds_on cells hasher size₀ half₀ live h k v lws₀ lds₀ uws₀ uds₀) lws₀ lds₀ uws₀ uds₀ half size count lws lds uws uds
-  pub lower_words_lem : length lws ≡ length lws₀
-  pub lower_deltas_lem : length lds ≡ length lds₀
-  pub upper_words_lem : length uws ≡ length uws₀
-  pub upper_deltas_lem : length uds ≡ length uds₀
+  pub lower_words_length : length lws ≡ length lws₀
+  pub lower_deltas_length : length lds ≡ length lds₀
+  pub upper_words_length : length uws ≡ length uws₀
+  pub upper_deltas_length : length uds ≡ length uds₀
 
 -- the halves have an allowed number of cells
 pub cells_sized : (half : rule.Half) (lws lds uws uds : List ℕ) (cells size : ℕ) → Sides half lws lds uws uds cells size → is_size cells ≡ true
@@ -44,10 +44,10 @@ module _ (cells h k v live size₀ : ℕ) (half₀ : rule.Half) (lws₀ lds₀ u
   turning q =
       record {
         going = λ hasher. begin cells hasher h k v live size₀ half₀ lws₀ lds₀ uws₀ uds₀ (cells_sized half₀ lws₀ lds₀ uws₀ uds₀ cells size₀ q) q;
-        lower_words_lem = refl;
-        lower_deltas_lem = refl;
-        upper_words_lem = refl;
-        upper_deltas_lem = refl;
+        lower_words_length = refl;
+        lower_deltas_length = refl;
+        upper_words_length = refl;
+        upper_deltas_length = refl;
       }
 
   module _ (half : rule.Half) (size count : ℕ) (lws lds uws uds : List ℕ)
@@ -111,8 +111,8 @@ module _ (cells h k v live size₀ : ℕ) (half₀ : rule.Half) (lws₀ lds₀ u
           (record {
             going = λ hasher.
                 onward cells hasher h k v live (whole hasher) lws₀ lds₀ uws₀ uds₀ size count lws lds uws uds half (t.going hasher) x (e hasher) T (same_end ∙ ap round_end q);
-            lower_words_lem = lw ∙ t.lower_words_lem;
-            lower_deltas_lem = ld ∙ t.lower_deltas_lem;
-            upper_words_lem = uw ∙ t.upper_words_lem;
-            upper_deltas_lem = ud ∙ t.upper_deltas_lem;
+            lower_words_length = lw ∙ t.lower_words_length;
+            lower_deltas_length = ld ∙ t.lower_deltas_length;
+            upper_words_length = uw ∙ t.upper_words_length;
+            upper_deltas_length = ud ∙ t.upper_deltas_length;
           })

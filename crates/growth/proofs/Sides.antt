@@ -61,7 +61,7 @@ module _ (cells : ℕ) (hasher : Hasher) (h k v live : ℕ) (whole : GrowOutcome
         let w = turn_way cells hasher h k v size live lws lds uws uds (one rule.lower g).0 rule.lower g.used g.spare q.cells_size in
         let d =
         ends cells hasher h k v size live lws lds uws uds (one rule.lower g).0 rule.lower g.used g.spare lws₀ lds₀ uws₀ uds₀
-        g.lower_words_lem g.lower_deltas_lem g.upper_words_lem g.upper_deltas_lem x _ (rw (sym e) at w) n in
+        g.lower_words_become g.lower_deltas_become g.upper_words_become g.upper_deltas_become x _ (rw (sym e) at w) n in
         (d.still, final_lower cells lws₀ lds₀ uws₀ uds₀ count size x _ d ∙ sym (after rule.lower g))
     finish rule.upper g x e n =
         let q = g.sides in
@@ -69,7 +69,7 @@ module _ (cells : ℕ) (hasher : Hasher) (h k v live : ℕ) (whole : GrowOutcome
         let w = turn_way cells hasher h k v size live uws uds lws lds (one rule.upper g).0 rule.upper g.used g.spare q.cells_size in
         let d =
         ends cells hasher h k v size live uws uds lws lds (one rule.upper g).0 rule.upper g.used g.spare uws₀ uds₀ lws₀ lds₀
-        g.upper_words_lem g.upper_deltas_lem g.lower_words_lem g.lower_deltas_lem y _ w (rw e at n) in
+        g.upper_words_become g.upper_deltas_become g.lower_words_become g.lower_deltas_become y _ w (rw e at n) in
         (rw e d.still, ap (Final cells lws₀ lds₀ uws₀ uds₀ count size rule.upper) e ∙ final_upper cells lws₀ lds₀ uws₀ uds₀ count size y _ d ∙ sym (after rule.upper g))
 
     -- one move more
@@ -117,10 +117,10 @@ module _ (cells : ℕ) (hasher : Hasher) (h k v live : ℕ) (whole : GrowOutcome
           left = n.0;
           used = cleared m.fills;
           spare = cleared [];
-          lower_words_lem = m.words;
-          lower_deltas_lem = m.deltas;
-          upper_words_lem = m.spare_words_filled;
-          upper_deltas_lem = m.spare_deltas_filled;
+          lower_words_become = m.words;
+          lower_deltas_become = m.deltas;
+          upper_words_become = m.spare_words_filled;
+          upper_deltas_become = m.spare_deltas_filled;
           same = after rule.lower g ∙ ap (λ (o : GrowOutcome). moved_on count (grew_from cells o lws₀ lds₀ uws₀ uds₀)) m.rest ∙ counted T _;
           sides = m.halved;
           enough = m.enough;
@@ -139,10 +139,10 @@ module _ (cells : ℕ) (hasher : Hasher) (h k v live : ℕ) (whole : GrowOutcome
           left = n.0;
           used = cleared m.fills;
           spare = cleared [];
-          lower_words_lem = m.spare_words_filled;
-          lower_deltas_lem = m.spare_deltas_filled;
-          upper_words_lem = m.words;
-          upper_deltas_lem = m.deltas;
+          lower_words_become = m.spare_words_filled;
+          lower_deltas_become = m.spare_deltas_filled;
+          upper_words_become = m.words;
+          upper_deltas_become = m.deltas;
           same = after rule.upper g ∙ ap (λ (o : GrowOutcome). moved_on count (grew_from cells o lws₀ lds₀ uws₀ uds₀)) m.rest ∙ counted T _;
           sides = m.halved;
           enough = m.enough;
@@ -178,10 +178,10 @@ begin cells hasher h k v live size half lws lds uws uds s q = go half q
           left = most_rounds;
           used = stays [];
           spare = stays [];
-          lower_words_lem = refl;
-          lower_deltas_lem = refl;
-          upper_words_lem = refl;
-          upper_deltas_lem = refl;
+          lower_words_become = refl;
+          lower_deltas_become = refl;
+          upper_words_become = refl;
+          upper_deltas_become = refl;
           same = none_before _;
           sides = q;
           enough = start_enough cells null (hash_of hasher) (clear_held cells) h k v s (round_at size rule.lower live lws lds (stays []) (stays []));
@@ -192,10 +192,10 @@ begin cells hasher h k v live size half lws lds uws uds s q = go half q
           left = most_rounds;
           used = stays [];
           spare = stays [];
-          lower_words_lem = refl;
-          lower_deltas_lem = refl;
-          upper_words_lem = refl;
-          upper_deltas_lem = refl;
+          lower_words_become = refl;
+          lower_deltas_become = refl;
+          upper_words_become = refl;
+          upper_deltas_become = refl;
           same = none_before _;
           sides = q;
           enough = start_enough cells null (hash_of hasher) (clear_held cells) h k v s (round_at size rule.upper live uws uds (stays []) (stays []));

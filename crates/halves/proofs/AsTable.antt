@@ -29,7 +29,7 @@ changed_half upper f l u = refl
 module _ (lw ld uw ud : List ℕ) (g : Growing) (e : are_halves lw ld uw ud && record_fits (size_in ld) g ≡ true) where
   -- the words tell C as the deltas do
   words_tell : length lw / 3 ≡ size_in ld
-  words_tell = let l = (passed lw ld uw ud g e).0.lower_words_lem in omega arith
+  words_tell = let l = (passed lw ld uw ud g e).0.lower_words_length in omega arith
 
   words_pass : are_pair 3 (length lw / 3) (length lw) (length uw) && record_fits (length lw / 3) g ≡ true
   unfolding are_halves

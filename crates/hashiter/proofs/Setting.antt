@@ -1,10 +1,10 @@
 -- Each branch of setting a value, as the code takes it. Assumes nothing.
 use mathlib.Core.List.{[]}
-use mathlib.Core.Path.{◌≡◌, sym, ◌∙◌}
+use mathlib.Core.Path.{◌≡◌}
 use Prim.Native.Nat.{ℕ, ◌≤◌, ◌<◌}
-use borrow.Author.Tests.{eq-eqb, ne_eqb, lt-ltb, le-ltb}
-use Rattle.rules.specs.Cells.{Params, Cells, Counts, Lent, shape, offered}
-use Rattle.rules.specs.Answers.{absent, replaced, refused, store, leave}
+use borrow.Author.Tests.{lt-ltb, le-ltb}
+use Rattle.rules.specs.Cells.{Lent, shape, offered}
+use Rattle.rules.specs.Answers.{refused, leave}
 use Rattle.rules.specs.Cursor.{set_at, set_value}
 
 module _ (l : Lent) (i v : ℕ) where
@@ -25,20 +25,3 @@ module _ (l : Lent) (i v : ℕ) where
       pub set_past : offered l.params.null v ≡ 0 → set_value l i v ≡ set_at l.params l.cells l.value l.counts i v
       unfolding set_value
       set_past f = rw (e, lt-ltb i l.params.S u, f)
-
-module _ (p : Params) (cs : Cells) (value : ℕ → ℕ) (c : Counts) (i v : ℕ) (h old : ℕ) (eh : h ≡ cs.hash i) (eo : old ≡ value i) where
-  -- an empty cell
-  pub set_empty : h ≡ 0 → set_at p cs value c i v ≡ leave absent 0 c
-  unfolding set_at
-  set_empty z = rw (eq-eqb (cs.hash i) 0 (sym eh ∙ z))
-
-  module _ (n : h ≡ 0 → ⊥) where
-    -- a removed one
-    pub set_removed : old ≡ p.null → set_at p cs value c i v ≡ leave absent 0 c
-    unfolding set_at
-    set_removed z = rw (ne_eqb (cs.hash i) 0 (λ y. n (eh ∙ y)), eq-eqb (value i) p.null (sym eo ∙ z))
-
-    -- a live one
-    pub set_live : (old ≡ p.null → ⊥) → set_at p cs value c i v ≡ record { said = replaced old; looked = 0; counts = c; change = store i v }
-    unfolding set_at
-    set_live z = rw (ne_eqb (cs.hash i) 0 (λ y. n (eh ∙ y)), ne_eqb (value i) p.null (λ y. z (eo ∙ y)), eo)

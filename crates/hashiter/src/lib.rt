@@ -106,6 +106,7 @@ impl Cursor {
 }
 
 // Behind the checks of setting.
+#[tactic(auto, unfolding(rules::specs::Cursor::set_at, cells::specs::Layout::done_by))]
 fn set_in(words: &mut [u64], i: usize, value: u64) -> SetSaid
     requires { 3 * i + 2 < length words.old }
     ensures { (h : Hasher) (S live : ℕ) (ds : List ℕ) → set_done result live words.new ds ≡ done_by (set_at (params_of S h) (view words.old ds) (value_in words.old) (counts_of live) i value) words.old ds }

@@ -4,7 +4,6 @@ use mathlib.Core.List.{List, [], ◌∷◌}
 use mathlib.Core.Path.{◌≡◌, refl, ap, ◌∙◌}
 use Prim.Native.Nat.{ℕ}
 use native.Mathlib.Omega.{arith}
-use borrow.Author.Tests.{eq-eqb, ne_eqb}
 use lib.Dec.{eqb}
 use Rattle.rules.specs.Answers.{Change}
 use Rattle.rules.specs.Moves.{Held, Ended, all, stop, Moved, stop_with, move_cells, totalled, move_all, move_end}
@@ -13,15 +12,6 @@ use Rattle.moving.specs.Slices.{held_in, clear_held, words_after_all, deltas_aft
 use Rattle.moving.specs.declared.MoveEnd.{MoveEnd}
 use Rattle.moving.specs.declared.MoveEnd.TheVariants.{All, Full, Broken}
 use Rattle.moving.specs.Ends.{end_of, end_totalled, went_over, Placed, over, stops, placed, placed_by, Into, into_by}
-
--- ---- the total
-
-module _ (live : ℕ) (e : MoveEnd) (total : ℕ) (q : e ≡ All total) where
-  pub total_live : total ≡ live → All total ≡ end_totalled live e
-  total_live t = rw (q, eq-eqb total live t)
-
-  pub total_other : (total ≡ live → ⊥) → Broken ≡ end_totalled live e
-  total_other t = rw (q, ne_eqb total live t)
 
 -- ---- the whole move
 

@@ -35,10 +35,10 @@ pub record Pair (each C l u : ℕ) : Type 0 where
 -- both halves hold C cells
 pub record Halves (C : ℕ) (lw ld uw ud : List ℕ) : Type 0 where
   pub size : is_size C ≡ true
-  pub lower_words_lem : length lw ≡ 3 * C
-  pub lower_deltas_lem : length ld ≡ 2 * C
-  pub upper_words_lem : length uw ≡ 3 * C
-  pub upper_deltas_lem : length ud ≡ 2 * C
+  pub lower_words_length : length lw ≡ 3 * C
+  pub lower_deltas_length : length ld ≡ 2 * C
+  pub upper_words_length : length uw ≡ 3 * C
+  pub upper_deltas_length : length ud ≡ 2 * C
 
 -- a record's size is allowed and at most C, its live at most the size
 pub record Fits (C : ℕ) (g : Growing) : Type 0 where
@@ -59,7 +59,7 @@ halves_hold lw ld uw ud e =
     let a = both (are_pair 3 (size_in ld) (length lw) (length uw)) _ e in
     let w = pair_holds 3 (size_in ld) (length lw) (length uw) a.0 in
     let d = pair_holds 2 (size_in ld) (length ld) (length ud) a.1 in
-    record { size = w.size; lower_words_lem = w.lower; lower_deltas_lem = d.lower; upper_words_lem = w.upper; upper_deltas_lem = d.upper }
+    record { size = w.size; lower_words_length = w.lower; lower_deltas_length = d.lower; upper_words_length = w.upper; upper_deltas_length = d.upper }
 
 pub size_holds : (C size : ℕ) → size_fits C size ≡ true → (is_size size ≡ true) × (size ≤ C)
 unfolding size_fits
@@ -75,8 +75,8 @@ record_holds C g e =
 -- the slices of either half hold the S cells of the table
 pub half_shaped : {C : ℕ} {lw ld uw ud : List ℕ} {g : Growing} → Halves C lw ld uw ud → Fits C g → (h : Half)
     → Shaped g.size (of_half (half_of h) lw uw) (of_half (half_of h) ld ud)
-half_shaped a f Lower = record { size = f.size; words = omega (arith, a.lower_words_lem, f.most); deltas = omega (arith, a.lower_deltas_lem, f.most) }
-half_shaped a f Upper = record { size = f.size; words = omega (arith, a.upper_words_lem, f.most); deltas = omega (arith, a.upper_deltas_lem, f.most) }
+half_shaped a f Lower = record { size = f.size; words = omega (arith, a.lower_words_length, f.most); deltas = omega (arith, a.lower_deltas_length, f.most) }
+half_shaped a f Upper = record { size = f.size; words = omega (arith, a.upper_words_length, f.most); deltas = omega (arith, a.upper_deltas_length, f.most) }
 
 module _ (lw ld uw ud : List ℕ) (g : Growing) where
   -- what check 1 shows of all that is lent

@@ -19,17 +19,15 @@ pub fn wrapping_mul(a: u64, b: u64) -> u64
     ((high_a * low_b + crossed) << 32) | (low & 0xffff_ffff)
 }
 
-// 2^63.
-const GREATEST_POWER: u64 = 0x8000_0000_0000_0000;
-
 // The least power of two that is at least x; 0 for 0 and for what is above 2^63.
+#[tactic(auto, using(crate::proofs::Powers::round_none))]
 pub fn round_to_pow2(x: u64) -> u64
     ensures { result ≡ round_up x }
 {
     if x == 0 {
         return 0;
     }
-    if GREATEST_POWER < x {
+    if 0x8000_0000_0000_0000 < x {
         return 0;
     }
     1u64 << (64 - u64::leading_zeros(x - 1))
@@ -55,9 +53,6 @@ fn number_of(bytes: &[u8]) -> u64
     n
 }
 
-// How many bytes a load takes at most.
-const MOST_BYTES: usize = 8;
-
 // What a load answers.
 #[derive(Clone, Copy)]
 pub enum Loaded {
@@ -67,10 +62,11 @@ pub enum Loaded {
 }
 
 // The little-endian number of at most 8 bytes, those that lack being 0. Refusal: 8, more than 8 bytes.
+#[tactic(auto, unfolding(crate::specs::Bytes::load))]
 pub fn load_u64_le(bytes: &[u8]) -> Loaded
     ensures { said result ≡ load bytes.now }
 {
-    if bytes.len() <= MOST_BYTES {
+    if bytes.len() <= 8 {
         Loaded::Number(number_of(bytes))
     } else {
         Loaded::Length

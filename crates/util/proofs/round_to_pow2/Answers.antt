@@ -6,14 +6,8 @@ use native.Mathlib.Nat.{one-mul, mod-eq_of_lt}
 use native.Mathlib.Omega.{arith}
 use lib.Count.{count_leading_zeros, leading_le}
 use lib.Pow.{pow-lt}
-use Rattle.util.proofs.Powers.{round_none, round_is, round_length}
+use Rattle.util.proofs.Powers.{round_is, round_length}
 use Rattle.util.proofs.round_to_pow2.Goals as goal
-
-pub returns-then-x-eq0 : goal.returns-then-x-eq0
-returns-then-x-eq0 c = sym (round_none c.args.x (λ p. omega arith))
-
-pub returns-then-x-gt-GREATEST_POWER : goal.returns-then-x-gt-GREATEST_POWER
-returns-then-x-gt-GREATEST_POWER c = sym (round_none c.args.x (λ p. omega arith))
 
 pub overflow_sub-result-2 : goal.overflow_sub-result-2
 overflow_sub-result-2 c = leading_le 64 (c.args.x - 1)
