@@ -1,7 +1,6 @@
 -- Numbers and their little-endian bytes.
-use Rattle.std.specs.Prelude.{cond, List, [], ◌∷◌, ℕ, zero, suc, ◌+◌, ◌*◌, ◌/◌, ◌%◌, leb, length}
-use Rattle.util.specs.declared.Loaded.{Loaded}
-use Rattle.util.specs.declared.Loaded.TheVariants.{Number, Length}
+use Rattle.std.specs.Prelude.{cond, List, [], ◌∷◌, ℕ, zero, suc, ◌+◌, ◌*◌, ◌/◌, ◌%◌, leb, length, Result, Ok, Err}
+use Rattle.util.specs.declared.TooLong.{TooLong}
 
 -- the number whose bytes are given, lowest first; bytes past the end of the list count 0
 unfoldable pub number : List ℕ → ℕ
@@ -23,6 +22,6 @@ unfoldable pub load : List ℕ → Said
 load s = cond (leb (length s) 8) (is (number s)) (refused 8)
 
 -- each case's number and value
-abbrev pub said : Loaded → Said
-said (Number n) = is n
-said Length = refused 8
+abbrev pub said : Result ℕ TooLong → Said
+said (Ok n) = is n
+said (Err e) = refused 8

@@ -33,42 +33,30 @@ pub fn round_to_pow2(x: u64) -> u64
     1u64 << (64 - u64::leading_zeros(x - 1))
 }
 
-fn wide(x: u8) -> u64
-    ensures { result ≡ x }
-{
-    x as u64
-}
-
 // The little-endian number of at most 8 bytes.
 fn number_of(bytes: &[u8]) -> u64
     requires { length bytes.now ≤ 8 }
     ensures { result ≡ number bytes.now }
 {
     let mut n: u64 = 0;
-    let mut i = bytes.len();
-    while 0 < i {
-        i -= 1;
-        n = n * 256 + wide(bytes[i]);
+    for &byte in bytes.iter().rev() {
+        n = n * 256 + u64::from(byte);
     }
     n
 }
 
-// What a load answers.
-#[derive(Clone, Copy)]
-pub enum Loaded {
-    Number(u64),
-    // Refusal 8.
-    Length,
-}
+// Refusal 8: more than 8 bytes.
+#[derive(Clone, Copy, Debug, PartialEq, Eq)]
+pub struct TooLong;
 
 // The little-endian number of at most 8 bytes, those that lack being 0. Refusal: 8, more than 8 bytes.
 #[tactic(auto, unfolding(crate::specs::Bytes::load))]
-pub fn load_u64_le(bytes: &[u8]) -> Loaded
+pub fn load_u64_le(bytes: &[u8]) -> Result<u64, TooLong>
     ensures { said result ≡ load bytes.now }
 {
     if bytes.len() <= 8 {
-        Loaded::Number(number_of(bytes))
+        Ok(number_of(bytes))
     } else {
-        Loaded::Length
+        Err(TooLong)
     }
 }

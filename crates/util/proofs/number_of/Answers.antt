@@ -1,37 +1,28 @@
--- `util::number_of` meets its contract: n is the number of the bytes from i on. Assumes nothing.
+-- `util::number_of` meets its contract: the byte taken is the last of those that are left. Assumes nothing.
 use borrow.Author.Rules.{rules}
-use mathlib.Core.Path.{◌≡◌, sym, ap, ◌∙◌}
-use Prim.Native.Nat.{ℕ, ◌-◌}
 use native.Mathlib.Omega.{arith}
-use lib.ListN.{drop}
-use lib.Seq.{drop-length}
-use Rattle.util.specs.Bytes.{number}
-use Rattle.util.proofs.Loading.{rest_fits, one_more}
+use lib.ListN.{length}
+use Rattle.util.proofs.Loading.{all_left, rest_fits, one_left, one_more}
 use Rattle.util.proofs.number_of.Goals as goal
 
-pub loop-i-init : goal.loop-i-init
-unfolding number
-loop-i-init c = (search rules, sym (ap number (drop-length c.args.bytes.now)))
+pub loop-byte-init : goal.loop-byte-init
+loop-byte-init c = all_left c.args.bytes.now _ (search rules)
 
 pub overflow_mul-n : goal.overflow_mul-n
 overflow_mul-n c =
     let s = c.args.bytes.now in
-    let i = c.loop-i.i in
-    omega (arith, one_more s i (search rules) (search rules), rest_fits s (i - 1) c.requires (λ k. (c.type_inv.bytes k).fits))
+    let r' = c.next.new.self.iter.rest.now in
+    omega (arith, one_more s _ r' _ c.loop-byte.invariant.0 c.in-Some.ensures.steps, rest_fits s (length r') c.requires (λ k. (c.type_inv.bytes k).fits))
 
 pub overflow_add-n : goal.overflow_add-n
 overflow_add-n c =
     let s = c.args.bytes.now in
-    let i = c.loop-i.i in
-    omega (arith, c.wide.ensures, one_more s i (search rules) (search rules), rest_fits s (i - 1) c.requires (λ k. (c.type_inv.bytes k).fits))
+    let r' = c.next.new.self.iter.rest.now in
+    omega (arith, c.from.ensures, one_more s _ r' _ c.loop-byte.invariant.0 c.in-Some.ensures.steps, rest_fits s (length r') c.requires (λ k. (c.type_inv.bytes k).fits))
 
-pub loop-i-preserved : goal.loop-i-preserved
-loop-i-preserved c =
+pub loop-byte-preserved : goal.loop-byte-preserved
+loop-byte-preserved c =
     let s = c.args.bytes.now in
-    let i = c.loop-i.i in
-    (search rules, omega (arith, c.wide.ensures, one_more s i (search rules) (search rules)))
-
-pub returns : goal.returns
-returns c =
-    let z : c.loop-i.i ≡ 0 = omega arith in
-    c.loop-i.invariant.1 ∙ ap (λ (k : ℕ). number (drop k c.args.bytes.now)) z
+    let r' = c.next.new.self.iter.rest.now in
+    let more = one_more s _ r' _ c.loop-byte.invariant.0 c.in-Some.ensures.steps in
+    (one_left s _ r' _ c.loop-byte.invariant.0 c.in-Some.ensures.steps, omega (arith, c.from.ensures, more))
