@@ -1,13 +1,12 @@
 -- The layout of 01's Memory section: how the two lent slices hold the cells, and what a change of the cells is on them.
-use Rattle.std.specs.Prelude.{◌≡◌, ℕ, zero, suc, ◌+◌, ◌*◌, ◌/◌, ◌%◌, ◌≤◌, Bool, true, not, ◌&&◌, List, [], ◌∷◌, length, replicate, ◌==◌, slice_index, slice_set}
+use Rattle.std.specs.Prelude.{◌≡◌, ℕ, zero, suc, ◌+◌, ◌*◌, ◌/◌, ◌%◌, ◌≤◌, Bool, true, not, ◌&&◌, List, [], ◌∷◌, length, replicate, ◌==◌, slice_index, slice_set, Result, Ok, Err}
 use Rattle.hashers.specs.Keys.{hash_of}
 use Rattle.hashers.specs.declared.Hasher.{Hasher}
 use Rattle.rules.specs.Sizes.{is_size}
 use Rattle.rules.specs.Cells.{Params, Cells, Counts, Lent}
 use Rattle.rules.specs.Answers.{Said, Link, unlinked, as_first, as_second, Change, nothing, store, fill, Outcome}
 use Rattle.cells.specs.declared.Table.{Table}
-use Rattle.cells.specs.declared.Offered.{Offered}
-use Rattle.cells.specs.declared.Offered.TheVariants.{Fine, Null}
+use Rattle.cells.specs.declared.NullError.{NullError}
 
 -- null is 2^64 - 2
 abbrev pub null : ℕ
@@ -130,6 +129,6 @@ pub record Shaped (S : ℕ) (ws ds : List ℕ) : Type 0 where
   pub deltas : 2 * S ≤ length ds
 
 -- the number under which a value is refused
-abbrev pub offered_by : Offered → ℕ
-offered_by Fine = 0
-offered_by Null = 3
+abbrev pub offered_by : Result Unit NullError → ℕ
+offered_by (Ok u) = 0
+offered_by (Err e) = 3

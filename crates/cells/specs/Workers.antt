@@ -1,5 +1,5 @@
 -- How the workers' own types are read.
-use Rattle.std.specs.Prelude.{◌≡◌, ℕ, ◌+◌, List, [], ◌∷◌, length}
+use Rattle.std.specs.Prelude.{◌≡◌, ℕ, ◌+◌, List, [], ◌∷◌, length, Option, Some, None, Result, Ok, Err}
 use Rattle.rules.specs.Cells.{Cells, Counts}
 use Rattle.rules.specs.Walk as rule
 use Rattle.rules.specs.Walk.{probe_from}
@@ -9,10 +9,10 @@ use Rattle.rules.specs.Entries.{Place, occupied, vacant}
 use Rattle.cells.specs.Layout.{Done, done_by, counts_of}
 use Rattle.cells.specs.declared.walk.Stop.{Stop}
 use Rattle.cells.specs.declared.walk.Stop.TheVariants.{Met, Tail, Broken}
-use Rattle.cells.specs.declared.walk.Hit.{Hit}
-use Rattle.cells.specs.declared.walk.Hit.TheVariants.{Free, Taken}
 use Rattle.cells.specs.declared.insert.InsertSaid.{InsertSaid}
 use Rattle.cells.specs.declared.insert.InsertSaid.TheVariants as says
+use Rattle.cells.specs.declared.insert.WalkError.{WalkError}
+use Rattle.cells.specs.declared.insert.WalkError.TheVariants as fails
 use Rattle.cells.specs.declared.insert.Inserted.{Inserted}
 
 abbrev pub stop_of : Stop → rule.Stop
@@ -20,25 +20,29 @@ stop_of (Met q) = rule.met q
 stop_of (Tail q) = rule.tail q
 stop_of Broken = rule.broken
 
-abbrev pub hit_of : Hit → rule.Hit
-hit_of (Free d) = rule.free d
-hit_of Taken = rule.none
+abbrev pub hit_of : Option ℕ → rule.Hit
+hit_of (Some d) = rule.free d
+hit_of None = rule.none
 
--- each case of an insert's answer, by 01's number and with what it carries
-abbrev pub insert_said : InsertSaid → Said
-insert_said says.New = new
-insert_said (says.Replaced old) = replaced old
-insert_said says.Revived = revived
-insert_said says.Shape = refused 1 []
-insert_said says.ZeroHash = refused 2 []
-insert_said says.Null = refused 3 []
-insert_said (says.Full at) = refused 4 (at.position ∷ [])
-insert_said says.Broken = refused 5 []
+-- each case of an insert's answer, with what it carries
+abbrev pub put_said : InsertSaid → Said
+put_said says.New = new
+put_said (says.Replaced old) = replaced old
+put_said says.Revived = revived
+
+-- and each of a worker's, by 01's number
+abbrev pub walk_failed : WalkError → Said
+walk_failed (fails.Full at) = refused 4 (at.position ∷ [])
+walk_failed fails.Broken = refused 5 []
+
+abbrev pub worker_said : Result InsertSaid WalkError → Said
+worker_said (Ok s) = put_said s
+worker_said (Err e) = walk_failed e
 
 -- what an insert's worker did, with the slices that it left
 abbrev pub insert_done : Inserted → List ℕ → List ℕ → Done
 insert_done r ws ds =
-    record { said = insert_said r.said; looked = r.looked; counts = counts_of r.live; words = ws; deltas = ds }
+    record { said = worker_said r.said; looked = r.looked; counts = counts_of r.live; words = ws; deltas = ds }
 
 -- the place of a key after an insert's answer, where i is the cell that it changed
 abbrev pub place_by : ℕ → Said → Place

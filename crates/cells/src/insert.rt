@@ -9,28 +9,27 @@ ghost use Rattle.cells.specs.Layout.{Shaped, null, view, hash_in, value_in, link
 ghost use Rattle.cells.specs.Workers.{stop_of, InsertedBy, insert_tail};
 
 use crate::slices::{fill_cell, hash_at, set_first, set_second, store_value, value_at};
-use crate::walk::{Hit, Stop, probe_from, walk_to};
-use crate::{Table, cell_of, window_of};
+use crate::walk::{Stop, Walked, probe_from, walk_to};
+use crate::{Cell, Table, cell_of, window_of};
 use std::num::wrapping_add_u64;
 
-// What Full carries: the position past the window.
-#[derive(Clone, Copy)]
-pub struct FullAt {
-    pub position: u64,
-}
-
-// What an insert says, with its refusals.
+// What an insert that is not refused says.
 #[derive(Clone, Copy)]
 pub enum InsertSaid {
     New,
     Replaced(u64),
     Revived,
-    // 1
-    Shape,
-    // 2
-    ZeroHash,
-    // 3
-    Null,
+}
+
+// What Full carries: the position past the window.
+#[derive(Clone, Copy, Debug, PartialEq, Eq)]
+pub struct FullAt {
+    pub position: u64,
+}
+
+// How an insert's walk is refused.
+#[derive(Clone, Copy, Debug, PartialEq, Eq)]
+pub enum WalkError {
     // 4
     Full(FullAt),
     // 5
@@ -40,7 +39,7 @@ pub enum InsertSaid {
 // What a worker did: the answer, the cells looked at, and live afterwards.
 #[derive(Clone, Copy)]
 pub struct Inserted {
-    pub said: InsertSaid,
+    pub said: Result<InsertSaid, WalkError>,
     pub looked: usize,
     pub live: usize,
     // The cell that was changed; any where none was.
@@ -64,14 +63,14 @@ fn insert_met(
         if live < size {
             store_value(words, i, value);
             return Inserted {
-                said: InsertSaid::Revived,
+                said: Ok(InsertSaid::Revived),
                 looked,
                 live: live + 1,
                 at: i,
             };
         }
         return Inserted {
-            said: InsertSaid::Broken,
+            said: Err(WalkError::Broken),
             looked,
             live,
             at: i,
@@ -79,7 +78,7 @@ fn insert_met(
     }
     store_value(words, i, value);
     Inserted {
-        said: InsertSaid::Replaced(old),
+        said: Ok(InsertSaid::Replaced(old)),
         looked,
         live,
         at: i,
@@ -87,29 +86,21 @@ fn insert_met(
 }
 
 // The home, cell i, is empty.
-pub fn insert_home(
-    words: &mut [u64],
-    size: usize,
-    live: usize,
-    i: usize,
-    hash: u64,
-    key: u64,
-    value: u64,
-) -> Inserted
+pub fn insert_home(words: &mut [u64], size: usize, live: usize, i: usize, cell: Cell) -> Inserted
     requires { (3 * i + 2 < length words.old) × (size ≤ 65536) }
-    ensures { (ds : List ℕ) → InsertedBy result (settle size (counts_of live) 1 new (fill i hash key value unlinked)) words.old ds words.new ds }
+    ensures { (ds : List ℕ) → InsertedBy result (settle size (counts_of live) 1 new (fill i cell.hash cell.key cell.value unlinked)) words.old ds words.new ds }
 {
     if live < size {
-        fill_cell(words, i, hash, key, value);
+        fill_cell(words, i, cell);
         return Inserted {
-            said: InsertSaid::New,
+            said: Ok(InsertSaid::New),
             looked: 1,
             live: live + 1,
             at: i,
         };
     }
     Inserted {
-        said: InsertSaid::Broken,
+        said: Err(WalkError::Broken),
         looked: 1,
         live,
         at: i,
@@ -134,41 +125,38 @@ fn insert_tail(
     deltas: &mut [u8],
     size: usize,
     live: usize,
-    hash: u64,
-    key: u64,
-    value: u64,
+    cell: Cell,
     tail: u64,
     looked: usize,
 ) -> Inserted
     requires { Shaped size words.old deltas.old × (looked ≤ size) }
-    ensures { InsertedBy result (insert_tail size (view words.old deltas.old) (counts_of live) looked hash key value tail) words.old deltas.old words.new deltas.new }
+    ensures { InsertedBy result (insert_tail size (view words.old deltas.old) (counts_of live) looked cell.hash cell.key cell.value tail) words.old deltas.old words.new deltas.new }
 {
     let count = window_of(size);
-    let hit = probe_from(words, size, count, tail);
-    match hit {
-        Hit::Free(d) => {
+    match probe_from(words, size, count, tail) {
+        Some(d) => {
             if live < size {
                 let at = cell_of(wrapping_add_u64(tail, d as u64), size);
-                fill_cell(words, at, hash, key, value);
-                link(deltas, size, looked, hash, tail, d);
+                fill_cell(words, at, cell);
+                link(deltas, size, looked, cell.hash, tail, d);
                 return Inserted {
-                    said: InsertSaid::New,
+                    said: Ok(InsertSaid::New),
                     looked: looked + d,
                     live: live + 1,
                     at,
                 };
             }
             Inserted {
-                said: InsertSaid::Broken,
+                said: Err(WalkError::Broken),
                 looked: looked + d,
                 live,
                 at: 0,
             }
         }
-        Hit::Taken => {
+        None => {
             let position = wrapping_add_u64(tail, count as u64 + 1);
             Inserted {
-                said: InsertSaid::Full(FullAt { position }),
+                said: Err(WalkError::Full(FullAt { position })),
                 looked: looked + count,
                 live,
                 at: 0,
@@ -183,20 +171,18 @@ pub fn insert_walked(
     deltas: &mut [u8],
     size: usize,
     live: usize,
-    hash: u64,
-    key: u64,
-    value: u64,
-    stop: Stop,
-    looked: usize,
+    cell: Cell,
+    walked: Walked,
 ) -> Inserted
-    requires { Shaped size words.old deltas.old × (hash_in words.old (hash % size) ≢ 0) × Ends (stop_of stop) looked (walk size (view words.old deltas.old) hash key) }
-    ensures { InsertedBy result (insert_stored size null (view words.old deltas.old) (value_in words.old) (counts_of live) hash key value) words.old deltas.old words.new deltas.new }
+    requires { Shaped size words.old deltas.old × (hash_in words.old (cell.hash % size) ≢ 0) × Ends (stop_of walked.stop) walked.looked (walk size (view words.old deltas.old) cell.hash cell.key) }
+    ensures { InsertedBy result (insert_stored size null (view words.old deltas.old) (value_in words.old) (counts_of live) cell.hash cell.key cell.value) words.old deltas.old words.new deltas.new }
 {
-    match stop {
-        Stop::Met(at) => insert_met(words, size, live, cell_of(at, size), value, looked),
-        Stop::Tail(at) => { insert_tail(words, deltas, size, live, hash, key, value, at, looked) }
+    let looked = walked.looked;
+    match walked.stop {
+        Stop::Met(at) => insert_met(words, size, live, cell_of(at, size), cell.value, looked),
+        Stop::Tail(at) => insert_tail(words, deltas, size, live, cell, at, looked),
         Stop::Broken => Inserted {
-            said: InsertSaid::Broken,
+            said: Err(WalkError::Broken),
             looked,
             live,
             at: 0,
@@ -210,19 +196,15 @@ pub fn insert_stored(
     deltas: &mut [u8],
     size: usize,
     live: usize,
-    hash: u64,
-    key: u64,
-    value: u64,
+    cell: Cell,
 ) -> Inserted
     requires { Shaped size words.old deltas.old }
-    ensures { InsertedBy result (insert_stored size null (view words.old deltas.old) (value_in words.old) (counts_of live) hash key value) words.old deltas.old words.new deltas.new }
+    ensures { InsertedBy result (insert_stored size null (view words.old deltas.old) (value_in words.old) (counts_of live) cell.hash cell.key cell.value) words.old deltas.old words.new deltas.new }
 {
-    let home = cell_of(hash, size);
+    let home = cell_of(cell.hash, size);
     if hash_at(words, home) == 0 {
-        return insert_home(words, size, live, home, hash, key, value);
+        return insert_home(words, size, live, home, cell);
     }
-    let walked = walk_to(words, deltas, size, hash, key);
-    let looked = walked.looked;
-    let stop = walked.stop;
-    insert_walked(words, deltas, size, live, hash, key, value, stop, looked)
+    let walked = walk_to(words, deltas, size, cell.hash, cell.key);
+    insert_walked(words, deltas, size, live, cell, walked)
 }

@@ -7,7 +7,7 @@ pub mod insert;
 pub mod slices;
 pub mod walk;
 
-ghost use Rattle.std.specs.Prelude.{◌≡◌, ◌%◌, ◌≤◌, true, ◌&&◌, nat_le};
+ghost use Rattle.std.specs.Prelude.{◌≡◌, ◌%◌, ◌≤◌, true, ◌&&◌, nat_le, cond, Some, None};
 ghost use Rattle.rules.specs.Sizes.{is_size, window};
 ghost use Rattle.rules.specs.Cells.{offered};
 ghost use Rattle.cells.specs.Layout.{null, size_in, is_shaped, offered_by};
@@ -28,25 +28,40 @@ impl Table {
     pub const LEAST_SIZE: usize = 8;
 
     pub const GREATEST_SIZE: usize = 65536;
+
+    pub const EMPTY: Cell = Cell {
+        hash: 0,
+        key: 0,
+        value: Table::NULL,
+    };
     // A probe looks at no more positions than this.
     pub const PROBE_LIMIT: usize = 128;
 }
 
-// Whether a value can be offered.
+// The three words of a cell.
 #[derive(Clone, Copy)]
-pub enum Offered {
-    Fine,
-    // Refusal 3.
-    Null,
+pub struct Cell {
+    pub hash: u64,
+    pub key: u64,
+    pub value: u64,
 }
 
-pub fn offer(value: u64) -> Offered
+// Refusal 1.
+#[derive(Clone, Copy, Debug, PartialEq, Eq)]
+pub struct ShapeError;
+
+// Refusal 3.
+#[derive(Clone, Copy, Debug, PartialEq, Eq)]
+pub struct NullError;
+
+// Whether a value can be offered. Refusal: 3.
+pub fn offer(value: u64) -> Result<(), NullError>
     ensures { offered_by result ≡ offered null value }
 {
     if value == Table::NULL {
-        Offered::Null
+        Err(NullError)
     } else {
-        Offered::Fine
+        Ok(())
     }
 }
 
@@ -76,14 +91,12 @@ pub fn is_shaped(words: &[u64], deltas: &[u8]) -> bool
     false
 }
 
-// Check 1 of a call that is lent a table with its record.
-pub fn passes(words: &[u64], deltas: &[u8], live: usize) -> bool
-    ensures { result ≡ (is_shaped words.now deltas.now && nat_le live (size_in deltas.now)) }
+// Check 1 of a call that is lent a table with its record: how many cells the table has, or none where the check fails.
+pub fn size_of(words: &[u64], deltas: &[u8], live: usize) -> Option<usize>
+    ensures { result ≡ cond (is_shaped words.now deltas.now && nat_le live (size_in deltas.now)) (Some (size_in deltas.now)) None }
 {
-    if is_shaped(words, deltas) {
-        return live <= deltas.len() / 2;
-    }
-    false
+    let size = deltas.len() / 2;
+    (is_shaped(words, deltas) && live <= size).then_some(size)
 }
 
 // The cell of a position.

@@ -63,25 +63,16 @@ pub fn walk_to(words: &[u64], deltas: &[u8], size: usize, hash: u64, key: u64) -
     }
 }
 
-// What a probe finds: the distance of the first empty cell, or none.
-#[derive(Clone, Copy)]
-pub enum Hit {
-    Free(usize),
-    Taken,
-}
-
-// The next so many positions past a tail.
-pub fn probe_from(words: &[u64], size: usize, count: usize, tail: u64) -> Hit
+// The next so many positions past a tail: the distance of the first empty cell, if there is one.
+pub fn probe_from(words: &[u64], size: usize, count: usize, tail: u64) -> Option<usize>
     requires { (is_size size ≡ true) × (3 * size ≤ length words.now) × (count ≤ 128) }
     ensures { hit_of result ≡ (probe size (hash_in words.now) tail count 1).hit }
 {
-    let mut d: usize = 1;
-    while d <= count {
+    for d in 1..count + 1 {
         let at = wrapping_add_u64(tail, d as u64);
         if hash_at(words, cell_of(at, size)) == 0 {
-            return Hit::Free(d);
+            return Some(d);
         }
-        d += 1;
     }
-    Hit::Taken
+    None
 }

@@ -1,14 +1,14 @@
 -- FNV-1a, byte by byte. Assumes nothing.
-use mathlib.Core.Path.{◌≡◌, sym, ap}
+use mathlib.Core.Path.{◌≡◌, refl, sym, ap}
 use mathlib.Core.List.{List, [], ◌∷◌}
-use Prim.Native.Nat.{ℕ, suc, ◌+◌, ◌-◌, ◌*◌, ◌/◌, ◌%◌, ◌^◌, ◌<◌}
-use native.Mathlib.Nat.{mod-lt}
+use Prim.Native.Nat.{ℕ, ◌+◌, ◌*◌, ◌^◌, ◌<◌}
+use native.Mathlib.Nat.{mod-lt, div-div-eq-div-mul}
 use native.Mathlib.Numerals.{add-one}
-use native.Mathlib.Omega.{arith}
 use lib.Bits.{bit_xor}
 use lib.ListN.{length, get_or, drop}
 use lib.Pow.{pow_pos}
 use lib.Seq.{drop-cons}
+use Rattle.std.specs.Int.{to_le_bytes, w64}
 use Rattle.util.specs.Bytes.{bytes_of}
 use Rattle.hashers.specs.Published.{fnv_byte, fnv1a}
 
@@ -17,12 +17,10 @@ pub fnv_next : (state : ℕ) (s : List ℕ) (i : ℕ) → i < length s → fnv1a
 unfolding fnv1a
 fnv_next state s i l = rw add-one (sym (ap (fnv1a state) (drop-cons s i 0 l)))
 
--- the next of the 8 bytes of a number
-pub fnv_next_of_key : (state rest i : ℕ) → i < 8 → fnv1a (fnv_byte state (rest % 256)) (bytes_of (8 - (i + 1)) (rest / 256)) ≡ fnv1a state (bytes_of (8 - i) rest)
-unfolding fnv1a bytes_of
-fnv_next_of_key state rest i l =
-    let e : 8 - i ≡ suc (8 - (i + 1)) = omega arith in
-    sym (ap (λ (n : ℕ). fnv1a state (bytes_of n rest)) e)
+-- the bytes that the library writes a number as
+pub key_bytes : (n : ℕ) → to_le_bytes w64 n ≡ bytes_of 8 n
+unfolding bytes_of
+key_bytes n = simp div-div-eq-div-mul refl
 
 -- a state below 2 ^ 64 stays so
 pub fnv1a_lt : (state : ℕ) (s : List ℕ) → state < 2 ^ 64 → fnv1a state s < 2 ^ 64

@@ -1,14 +1,11 @@
 -- What a write to each hasher answers, with the state it leaves.
-use Rattle.std.specs.Prelude.{cond, List, ℕ, leb, length}
+use Rattle.std.specs.Prelude.{cond, List, ℕ, leb, length, Result, Ok, Err}
 use Rattle.util.specs.Bytes.{number}
 use Rattle.hashers.specs.Published.{fmix64, fnv1a, fnv_offset}
 use Rattle.hashers.specs.declared.fnv.FnvHasher.{FnvHasher}
 use Rattle.hashers.specs.declared.murmur.MurmurHasher.{MurmurHasher}
 use Rattle.hashers.specs.declared.simple.SimpleHasher.{SimpleHasher}
-use Rattle.hashers.specs.declared.murmur.MurmurWrite.{MurmurWrite}
-use Rattle.hashers.specs.declared.murmur.MurmurWrite.TheVariants as murmur
-use Rattle.hashers.specs.declared.simple.SimpleWrite.{SimpleWrite}
-use Rattle.hashers.specs.declared.simple.SimpleWrite.TheVariants as simple
+use Rattle.hashers.specs.declared.Unwritten.{Unwritten}
 
 -- what a write says: taken, or refused by a number; and the state afterwards
 pub data Wrote : Type 0 where
@@ -30,13 +27,13 @@ abbrev pub fnv_write : FnvHasher → List ℕ → FnvHasher
 fnv_write h s = record { 0 = fnv1a h.0 s }
 
 -- each case's number and state
-abbrev pub simple_said : SimpleWrite → Wrote
-simple_said (simple.Written h) = taken h.0
-simple_said (simple.Length h) = refused 8 h.0
+abbrev pub simple_said : Result SimpleHasher (Unwritten SimpleHasher) → Wrote
+simple_said (Ok h) = taken h.0
+simple_said (Err e) = refused 8 e.0.0
 
-abbrev pub murmur_said : MurmurWrite → Wrote
-murmur_said (murmur.Written h) = taken h.0
-murmur_said (murmur.Length h) = refused 8 h.0
+abbrev pub murmur_said : Result MurmurHasher (Unwritten MurmurHasher) → Wrote
+murmur_said (Ok h) = taken h.0
+murmur_said (Err e) = refused 8 e.0.0
 
 -- the starting states
 abbrev pub simple_start : SimpleHasher

@@ -6,10 +6,11 @@ ghost use Rattle.hashers.specs.Keys.{hash_of};
 ghost use Rattle.hashers.specs.declared.Hasher.TheVariants.{Fnv};
 
 // One byte of FNV-1a: xor, then multiply by the prime.
+#[tactic(auto, unfolding(crate::specs::Published::fnv_byte))]
 fn fnv_byte(state: u64, byte: u8) -> u64
     ensures { result ≡ fnv_byte state byte }
 {
-    util::wrapping_mul(state ^ (byte as u64), 0x100000001b3)
+    util::wrapping_mul(state ^ u64::from(byte), 0x100000001b3)
 }
 
 #[derive(Clone, Copy)]
@@ -29,10 +30,8 @@ impl FnvHasher {
         ensures { result ≡ fnv_write self bytes.now }
     {
         let mut state = self.0;
-        let mut i = 0;
-        while i < bytes.len() {
-            state = fnv_byte(state, bytes[i]);
-            i += 1;
+        for &byte in bytes {
+            state = fnv_byte(state, byte);
         }
         FnvHasher(state)
     }
@@ -48,11 +47,5 @@ impl FnvHasher {
 pub(crate) fn fnv_key(key: u64) -> u64
     ensures { result ≡ hash_of Fnv key }
 {
-    let mut state: u64 = FnvHasher::START.0;
-    let mut rest = key;
-    for i in 0..8usize {
-        state = fnv_byte(state, (rest % 256) as u8);
-        rest = rest / 256;
-    }
-    state
+    FnvHasher::START.write(&key.to_le_bytes()).0
 }

@@ -10,8 +10,12 @@ ghost use Rattle.hashers.specs.Keys.{hash_of};
 ghost use Rattle.hashers.specs.Exports.{simple_c, murmur_c, fnv_c};
 
 pub use fnv::FnvHasher;
-pub use murmur::{MurmurHasher, MurmurWrite};
-pub use simple::{SimpleHasher, SimpleWrite};
+pub use murmur::MurmurHasher;
+pub use simple::SimpleHasher;
+
+// A write that was refused under 8, with the state as it was.
+#[derive(Clone, Copy)]
+pub struct Unwritten<H>(pub H);
 
 // Which hasher a table uses.
 #[derive(Clone, Copy)]
@@ -36,19 +40,13 @@ pub fn hash_of(hasher: Hasher, key: u64) -> u64
 pub fn leapfrog_hash_simple(bytes: &[u8]) -> u64
     ensures { result ≡ simple_c bytes.now }
 {
-    match SimpleHasher::START.write(bytes) {
-        SimpleWrite::Written(h) => h.0,
-        SimpleWrite::Length(_) => 0,
-    }
+    SimpleHasher::START.write(bytes).map_or(0, |h| h.0)
 }
 
 pub fn leapfrog_hash_murmur(bytes: &[u8]) -> u64
     ensures { result ≡ murmur_c bytes.now }
 {
-    match MurmurHasher::START.write(bytes) {
-        MurmurWrite::Written(h) => h.0,
-        MurmurWrite::Length(_) => 0,
-    }
+    MurmurHasher::START.write(bytes).map_or(0, |h| h.0)
 }
 
 pub fn leapfrog_hash_fnv(bytes: &[u8]) -> u64

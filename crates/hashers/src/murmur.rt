@@ -3,6 +3,8 @@ ghost use Rattle.std.specs.Prelude.{◌≡◌};
 ghost use Rattle.hashers.specs.Published.{fmix64};
 ghost use Rattle.hashers.specs.Writes.{murmur_said, murmur_write, murmur_start};
 
+use crate::Unwritten;
+
 // MurmurHash3's finalizer.
 pub(crate) fn fmix(x: u64) -> u64
     ensures { result ≡ fmix64 x }
@@ -17,13 +19,6 @@ pub(crate) fn fmix(x: u64) -> u64
 #[derive(Clone, Copy)]
 pub struct MurmurHasher(pub u64);
 
-// What a write answers: the state with the bytes in it, or refusal 8 with the state as it was.
-#[derive(Clone, Copy)]
-pub enum MurmurWrite {
-    Written(MurmurHasher),
-    Length(MurmurHasher),
-}
-
 impl MurmurHasher {
     pub const START: MurmurHasher = MurmurHasher(0);
 
@@ -34,13 +29,13 @@ impl MurmurHasher {
     }
 
     // At most 8 bytes replace the state. Refusal: 8, more than 8 bytes.
-    pub fn write(self, bytes: &[u8]) -> MurmurWrite
+    pub fn write(self, bytes: &[u8]) -> Result<MurmurHasher, Unwritten<MurmurHasher>>
         ensures { murmur_said result ≡ murmur_write self.0 bytes.now }
     {
         let state = self.0;
         match util::load_u64_le(bytes) {
-            util::Loaded::Number(n) => MurmurWrite::Written(MurmurHasher(fmix(n))),
-            util::Loaded::Length => MurmurWrite::Length(MurmurHasher(state)),
+            Ok(n) => Ok(MurmurHasher(fmix(n))),
+            Err(util::TooLong) => Err(Unwritten(MurmurHasher(state))),
         }
     }
 

@@ -2,15 +2,10 @@
 ghost use Rattle.std.specs.Prelude.{◌≡◌};
 ghost use Rattle.hashers.specs.Writes.{simple_said, simple_write, simple_start};
 
+use crate::Unwritten;
+
 #[derive(Clone, Copy)]
 pub struct SimpleHasher(pub u64);
-
-// What a write answers: the state with the bytes in it, or refusal 8 with the state as it was.
-#[derive(Clone, Copy)]
-pub enum SimpleWrite {
-    Written(SimpleHasher),
-    Length(SimpleHasher),
-}
 
 impl SimpleHasher {
     pub const START: SimpleHasher = SimpleHasher(0);
@@ -22,13 +17,13 @@ impl SimpleHasher {
     }
 
     // At most 8 bytes replace the state. Refusal: 8, more than 8 bytes.
-    pub fn write(self, bytes: &[u8]) -> SimpleWrite
+    pub fn write(self, bytes: &[u8]) -> Result<SimpleHasher, Unwritten<SimpleHasher>>
         ensures { simple_said result ≡ simple_write self.0 bytes.now }
     {
         let state = self.0;
         match util::load_u64_le(bytes) {
-            util::Loaded::Number(n) => SimpleWrite::Written(SimpleHasher(n)),
-            util::Loaded::Length => SimpleWrite::Length(SimpleHasher(state)),
+            Ok(n) => Ok(SimpleHasher(n)),
+            Err(util::TooLong) => Err(Unwritten(SimpleHasher(state))),
         }
     }
 

@@ -6,8 +6,8 @@ use Rattle.hashers.specs.Writes.{taken}
 use Rattle.hashers.proofs.Replaced.{of_number, of_length}
 use Rattle.hashers.proofs.murmur.MurmurHasher.write.Goals as goal
 
-pub returns-in-Number : goal.returns-in-Number
-returns-in-Number c = ap taken c.fmix.ensures ∙ of_number fmix64 _ _ _ (ap said (sym c.in-Number.is) ∙ c.load_u64_le.ensures)
+pub returns-in-Ok : goal.returns-in-Ok
+returns-in-Ok c = ap taken c.fmix.ensures ∙ of_number fmix64 _ _ _ (ap said (sym c.in-Ok.is) ∙ c.load_u64_le.ensures)
 
-pub returns-in-Length : goal.returns-in-Length
-returns-in-Length c = of_length fmix64 _ _ (ap said (sym c.in-Length.is) ∙ c.load_u64_le.ensures)
+pub returns-in-Err : goal.returns-in-Err
+returns-in-Err c = of_length fmix64 _ _ (ap said (sym c.in-Err.is) ∙ c.load_u64_le.ensures)
