@@ -1,5 +1,5 @@
 -- Within a shaped table the cell of any position lies within both slices. Assumes nothing.
-use Rattle.std.proofs.Common.{◌≡◌, ℕ, ◌+◌, ◌*◌, ◌%◌, ◌<◌, ◌≤◌, Bool, true, false, ◌&&◌, eqb, leb, List, length, refl, ap, ◌∙◌, mod-lt, arith, eqb-true, leb-true}
+use Rattle.std.proofs.Common.{◌≡◌, ℕ, ◌+◌, ◌*◌, ◌%◌, ◌<◌, ◌≤◌, Bool, true, false, cond, ◌&&◌, eqb, leb, List, length, Some, None, refl, ap, ◌∙◌, mod-lt, arith, eqb-true, leb-true}
 use Rattle.rules.specs.Sizes.{is_size}
 use Rattle.steps.proofs.Sizes.{size_least, size_fours}
 use Rattle.cells.specs.Layout.{Shaped, is_shaped, size_in, second_at, hash_in}
@@ -50,3 +50,17 @@ shaped ws ds e =
 
 pub passed : (ws ds : List ℕ) (live : ℕ) → is_shaped ws ds && leb live (size_in ds) ≡ true → Shaped (size_in ds) ws ds × (live ≤ size_in ds)
 passed ws ds live e = let a = both _ _ e in (shaped ws ds a.0, leb-true _ _ a.1)
+
+-- and by its size, where it gives one
+pub sized : (b : Bool) (S : ℕ) {s : ℕ} → Some s ≡ cond b (Some S) None → (b ≡ true) × (s ≡ S)
+sized true S e = (refl, cc)
+sized false S e = let z : ◌≡◌ {A = ℕ} 0 1 = cc in absurd (omega arith)
+
+pub unsized : (b : Bool) (S : ℕ) → None ≡ cond b (Some S) None → b ≡ false
+unsized true S e = let z : ◌≡◌ {A = ℕ} 0 1 = cc in absurd (omega arith)
+unsized false S e = refl
+
+pub sized_shape : (ws ds : List ℕ) (live : ℕ) {s : ℕ} → Some s ≡ cond (is_shaped ws ds && leb live (size_in ds)) (Some (size_in ds)) None → Shaped s ws ds × (live ≤ s)
+sized_shape ws ds live e =
+    let a = sized _ (size_in ds) e in
+    rw a.1 (passed ws ds live a.0)

@@ -4,22 +4,21 @@
 ghost use Rattle.std.specs.Prelude.{◌≡◌};
 ghost use Rattle.rules.specs.Calls.{find_in, remove_in, find as find·rule, remove as remove·rule, insert as insert·rule};
 ghost use Rattle.cells.specs.Layout.{null, view, value_in, counts_of, lent, done_by, left_by, Shaped};
-ghost use Rattle.hashmap.specs.Answers.{find_answer, remove_done, remove_left, insert_left, clear_left, clear_rule};
+ghost use Rattle.cells.specs.Workers.{walk_failed, worker_said};
+ghost use Rattle.hashmap.specs.Answers.{find_answer, remove_done, remove_left, insert_failed, insert_said, insert_left, clear_left, clear_rule};
 
-pub use cells::Table;
 use cells::clear::{clear_deltas, clear_words};
-use cells::insert::insert_stored;
 pub use cells::insert::{FullAt, InsertSaid};
+use cells::insert::{WalkError, insert_stored};
 use cells::slices::{store_value, value_at};
 use cells::walk::{Stop, walk_to};
-use cells::{Offered, cell_of, is_shaped, offer, passes};
+pub use cells::{ShapeError, Table};
+use cells::{Cell, cell_of, is_shaped, offer, size_of};
 use hashers::{Hasher, hash_of};
 
-// What a find says, with its refusals.
-#[derive(Clone, Copy)]
-pub enum FindSaid {
-    Found(u64),
-    Absent,
+// How a lookup or a remove is refused.
+#[derive(Clone, Copy, Debug, PartialEq, Eq)]
+pub enum LookupError {
     // 1
     Shape,
     // 2
@@ -28,57 +27,73 @@ pub enum FindSaid {
     Broken,
 }
 
+// What a find says: the value, or none where the key is absent.
 #[derive(Clone, Copy)]
 pub struct FindAnswer {
-    pub said: FindSaid,
+    pub said: Result<Option<u64>, LookupError>,
     // How many cells were looked at.
     pub looked: usize,
 }
 
+// What a remove says: the value removed, or none where the key is absent.
 #[derive(Clone, Copy)]
-pub enum RemoveSaid {
-    Removed(u64),
-    Absent,
+pub struct RemoveAnswer {
+    pub said: Result<Option<u64>, LookupError>,
+    pub looked: usize,
+    pub table: Table,
+}
+
+// How an insert is refused.
+#[derive(Clone, Copy, Debug, PartialEq, Eq)]
+pub enum InsertError {
     // 1
     Shape,
     // 2
     ZeroHash,
+    // 3
+    Null,
+    // 4
+    Full(FullAt),
     // 5
     Broken,
 }
 
-#[derive(Clone, Copy)]
-pub struct RemoveAnswer {
-    pub said: RemoveSaid,
-    pub looked: usize,
-    pub table: Table,
+impl From<WalkError> for InsertError {
+    ghost from_gives = { λ e r. insert_failed r ≡ walk_failed e };
+
+    fn from(e: WalkError) -> InsertError {
+        match e {
+            WalkError::Full(at) => InsertError::Full(at),
+            WalkError::Broken => InsertError::Broken,
+        }
+    }
+}
+
+// A worker's answer, its errors among those of the call.
+fn as_said(said: Result<InsertSaid, WalkError>) -> Result<InsertSaid, InsertError>
+    ensures { insert_said result ≡ worker_said said }
+{
+    Ok(said?)
 }
 
 #[derive(Clone, Copy)]
 pub struct InsertAnswer {
-    pub said: InsertSaid,
+    pub said: Result<InsertSaid, InsertError>,
     pub looked: usize,
     pub table: Table,
 }
 
-#[derive(Clone, Copy)]
-pub enum ClearSaid {
-    Cleared(Table),
-    // 1
-    Shape,
-}
-
 // Makes a fresh table of the lent size: every cell empty, every delta 0, live 0. Refusal: 1.
-pub fn clear(words: &mut [u64], deltas: &mut [u8], hasher: Hasher) -> ClearSaid
+pub fn clear(words: &mut [u64], deltas: &mut [u8], hasher: Hasher) -> Result<Table, ShapeError>
     ensures { clear_left result words.new deltas.new ≡ clear_rule words.old deltas.old hasher }
 {
     if is_shaped(words, deltas) {
         let size = deltas.len() / 2;
         clear_words(words, size);
         clear_deltas(deltas);
-        return ClearSaid::Cleared(Table { hasher, live: 0 });
+        return Ok(Table { hasher, live: 0 });
     }
-    ClearSaid::Shape
+    Err(ShapeError)
 }
 
 // Behind the checks of find.
@@ -88,27 +103,26 @@ fn find_in(words: &[u64], deltas: &[u8], size: usize, hash: u64, key: u64) -> Fi
 {
     let walked = walk_to(words, deltas, size, hash, key);
     let looked = walked.looked;
-    let stop = walked.stop;
-    match stop {
+    match walked.stop {
         Stop::Met(at) => {
             let value = value_at(words, cell_of(at, size));
             if value == Table::NULL {
                 return FindAnswer {
-                    said: FindSaid::Absent,
+                    said: Ok(None),
                     looked,
                 };
             }
             FindAnswer {
-                said: FindSaid::Found(value),
+                said: Ok(Some(value)),
                 looked,
             }
         }
         Stop::Tail(_) => FindAnswer {
-            said: FindSaid::Absent,
+            said: Ok(None),
             looked,
         },
         Stop::Broken => FindAnswer {
-            said: FindSaid::Broken,
+            said: Err(LookupError::Broken),
             looked,
         },
     }
@@ -118,23 +132,20 @@ fn find_in(words: &[u64], deltas: &[u8], size: usize, hash: u64, key: u64) -> Fi
 pub fn find(words: &[u64], deltas: &[u8], table: Table, key: u64) -> FindAnswer
     ensures { find_answer result ≡ find·rule (lent words.now deltas.now table) key }
 {
-    let hasher = table.hasher;
-    let live = table.live;
-    if passes(words, deltas, live) {
-        let hash = hash_of(hasher, key);
-        if hash == 0 {
-            return FindAnswer {
-                said: FindSaid::ZeroHash,
-                looked: 0,
-            };
-        }
-        let size = deltas.len() / 2;
-        return find_in(words, deltas, size, hash, key);
+    let Some(size) = size_of(words, deltas, table.live) else {
+        return FindAnswer {
+            said: Err(LookupError::Shape),
+            looked: 0,
+        };
+    };
+    let hash = hash_of(table.hasher, key);
+    if hash == 0 {
+        return FindAnswer {
+            said: Err(LookupError::ZeroHash),
+            looked: 0,
+        };
     }
-    FindAnswer {
-        said: FindSaid::Shape,
-        looked: 0,
-    }
+    find_in(words, deltas, size, hash, key)
 }
 
 // Inserts a value under a key, or replaces the one there. Refusals: 1, 3, 2, then 4 or 5 from the walk.
@@ -149,43 +160,36 @@ pub fn insert(
 {
     let hasher = table.hasher;
     let live = table.live;
-    if passes(words, deltas, live) {
-        let offered = offer(value);
-        match offered {
-            Offered::Fine => {
-                let hash = hash_of(hasher, key);
-                if hash == 0 {
-                    return InsertAnswer {
-                        said: InsertSaid::ZeroHash,
-                        looked: 0,
-                        table,
-                    };
-                }
-                let size = deltas.len() / 2;
-                let done = insert_stored(words, deltas, size, live, hash, key, value);
-                let said = done.said;
-                return InsertAnswer {
-                    said,
-                    looked: done.looked,
-                    table: Table {
-                        hasher,
-                        live: done.live,
-                    },
-                };
-            }
-            Offered::Null => {
-                return InsertAnswer {
-                    said: InsertSaid::Null,
-                    looked: 0,
-                    table,
-                };
-            }
-        }
+    let Some(size) = size_of(words, deltas, live) else {
+        return InsertAnswer {
+            said: Err(InsertError::Shape),
+            looked: 0,
+            table,
+        };
+    };
+    let Ok(()) = offer(value) else {
+        return InsertAnswer {
+            said: Err(InsertError::Null),
+            looked: 0,
+            table,
+        };
+    };
+    let hash = hash_of(hasher, key);
+    if hash == 0 {
+        return InsertAnswer {
+            said: Err(InsertError::ZeroHash),
+            looked: 0,
+            table,
+        };
     }
+    let done = insert_stored(words, deltas, size, live, Cell { hash, key, value });
     InsertAnswer {
-        said: InsertSaid::Shape,
-        looked: 0,
-        table,
+        said: as_said(done.said),
+        looked: done.looked,
+        table: Table {
+            hasher,
+            live: done.live,
+        },
     }
 }
 
@@ -195,37 +199,35 @@ pub fn remove(words: &mut [u64], deltas: &[u8], table: Table, key: u64) -> Remov
 {
     let hasher = table.hasher;
     let live = table.live;
-    if passes(words, deltas, live) {
-        let hash = hash_of(hasher, key);
-        if hash == 0 {
-            return RemoveAnswer {
-                said: RemoveSaid::ZeroHash,
-                looked: 0,
-                table,
-            };
-        }
-        let size = deltas.len() / 2;
-        let done = remove_in(words, deltas, size, live, hash, key);
-        let said = done.said;
+    let Some(size) = size_of(words, deltas, live) else {
         return RemoveAnswer {
-            said,
-            looked: done.looked,
-            table: Table {
-                hasher,
-                live: done.live,
-            },
+            said: Err(LookupError::Shape),
+            looked: 0,
+            table,
+        };
+    };
+    let hash = hash_of(hasher, key);
+    if hash == 0 {
+        return RemoveAnswer {
+            said: Err(LookupError::ZeroHash),
+            looked: 0,
+            table,
         };
     }
+    let done = remove_in(words, deltas, size, live, hash, key);
     RemoveAnswer {
-        said: RemoveSaid::Shape,
-        looked: 0,
-        table,
+        said: done.said,
+        looked: done.looked,
+        table: Table {
+            hasher,
+            live: done.live,
+        },
     }
 }
 
 #[derive(Clone, Copy)]
 struct Removing {
-    said: RemoveSaid,
+    said: Result<Option<u64>, LookupError>,
     looked: usize,
     live: usize,
 }
@@ -244,39 +246,38 @@ fn remove_in(
 {
     let walked = walk_to(words, deltas, size, hash, key);
     let looked = walked.looked;
-    let stop = walked.stop;
-    match stop {
+    match walked.stop {
         Stop::Met(at) => {
             let i = cell_of(at, size);
-            let value = value_at(words, i);
-            if value == Table::NULL {
+            let old = value_at(words, i);
+            if old == Table::NULL {
                 return Removing {
-                    said: RemoveSaid::Absent,
+                    said: Ok(None),
                     looked,
                     live,
                 };
             }
             if live == 0 {
                 return Removing {
-                    said: RemoveSaid::Broken,
+                    said: Err(LookupError::Broken),
                     looked,
                     live,
                 };
             }
             store_value(words, i, Table::NULL);
             Removing {
-                said: RemoveSaid::Removed(value),
+                said: Ok(Some(old)),
                 looked,
                 live: live - 1,
             }
         }
         Stop::Tail(_) => Removing {
-            said: RemoveSaid::Absent,
+            said: Ok(None),
             looked,
             live,
         },
         Stop::Broken => Removing {
-            said: RemoveSaid::Broken,
+            said: Err(LookupError::Broken),
             looked,
             live,
         },

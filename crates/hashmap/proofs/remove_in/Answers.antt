@@ -6,17 +6,17 @@ use Rattle.cells.proofs.Shapes.{in_words}
 use Rattle.cells.proofs.Doing.{did, left_all}
 use Rattle.hashmap.proofs.remove_in.Goals as goal
 
-pub value_at-value-requires : goal.value_at-value-requires
-value_at-value-requires c = in_words c.requires _ c.cell_of-i.ensures
+pub value_at-old-requires : goal.value_at-old-requires
+value_at-old-requires c = in_words c.requires _ c.cell_of-i.ensures
 
-pub returns-then-value : goal.returns-then-value
-returns-then-value c =
-    left_all _ _ _ (remove_removed _ _ _ _ _ _ _ c.walk_to-walked.ensures _ _ _ (ap stop_of c.in-Met.is) c.cell_of-i.ensures c.value_at-value.ensures c.if-value.true)
+pub returns-then-old : goal.returns-then-old
+returns-then-old c =
+    left_all _ _ _ (remove_removed _ _ _ _ _ _ _ c.walk_to-walked.ensures _ _ _ (ap stop_of c.in-Met.is) c.cell_of-i.ensures c.value_at-old.ensures c.if-old.true)
 
 pub returns-then-live-eq0 : goal.returns-then-live-eq0
 returns-then-live-eq0 c =
     left_all _ _ _
-    (remove_none_left _ _ _ _ _ _ _ c.walk_to-walked.ensures _ _ _ (ap stop_of c.in-Met.is) c.cell_of-i.ensures c.value_at-value.ensures c.if-value.false c.if-live-eq0.true)
+    (remove_none_left _ _ _ _ _ _ _ c.walk_to-walked.ensures _ _ _ (ap stop_of c.in-Met.is) c.cell_of-i.ensures c.value_at-old.ensures c.if-old.false c.if-live-eq0.true)
 
 pub store_value-requires : goal.store_value-requires
 store_value-requires c = in_words c.requires _ c.cell_of-i.ensures
@@ -24,7 +24,7 @@ store_value-requires c = in_words c.requires _ c.cell_of-i.ensures
 pub returns-else-live-eq0 : goal.returns-else-live-eq0
 returns-else-live-eq0 c =
     did _ _ _ _
-    (remove_done_lem _ _ _ _ _ _ _ c.walk_to-walked.ensures _ _ _ (ap stop_of c.in-Met.is) c.cell_of-i.ensures c.value_at-value.ensures c.if-value.false c.if-live-eq0.false)
+    (remove_done_lem _ _ _ _ _ _ _ c.walk_to-walked.ensures _ _ _ (ap stop_of c.in-Met.is) c.cell_of-i.ensures c.value_at-old.ensures c.if-old.false c.if-live-eq0.false)
     c.store_value.ensures
     refl
 
