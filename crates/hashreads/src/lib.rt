@@ -7,8 +7,8 @@ ghost use Rattle.rules.specs.Calls.{find as find·rule};
 ghost use Rattle.cells.specs.Layout.{lent};
 ghost use Rattle.hashreads.specs.Answers.{contains_said, contains, key_value_said, key_value, capacity_said, capacity_rule};
 
-use cells::{Table, is_shaped};
-use hashmap::{FindSaid, find};
+use cells::{ShapeError, Table, is_shaped};
+use hashmap::{LookupError, find};
 
 // How many live cells the record counts.
 pub fn len(table: Table) -> usize
@@ -24,47 +24,27 @@ pub fn is_empty(table: Table) -> bool
     table.live == 0
 }
 
-#[derive(Clone, Copy)]
-pub enum CapacitySaid {
-    Cells(usize),
-    // 1
-    Shape,
-}
-
 // How many cells the table has. Refusal: 1, by the slices alone.
-pub fn capacity(words: &[u64], deltas: &[u8]) -> CapacitySaid
+pub fn capacity(words: &[u64], deltas: &[u8]) -> Result<usize, ShapeError>
     ensures { capacity_said result ≡ capacity_rule words.now deltas.now }
 {
     if is_shaped(words, deltas) {
-        return CapacitySaid::Cells(deltas.len() / 2);
+        return Ok(deltas.len() / 2);
     }
-    CapacitySaid::Shape
-}
-
-#[derive(Clone, Copy)]
-pub enum ContainsSaid {
-    Yes,
-    No,
-    // 1
-    Shape,
-    // 2
-    ZeroHash,
-    // 5
-    Broken,
+    Err(ShapeError)
 }
 
 // Whether a find gives a value. Refusals: 1, 2, then 5 from the walk.
-pub fn contains_key(words: &[u64], deltas: &[u8], table: Table, key: u64) -> ContainsSaid
+pub fn contains_key(
+    words: &[u64],
+    deltas: &[u8],
+    table: Table,
+    key: u64,
+) -> Result<bool, LookupError>
     ensures { contains_said result ≡ contains (find·rule (lent words.now deltas.now table) key).said }
 {
-    let said = find(words, deltas, table, key).said;
-    match said {
-        FindSaid::Found(_) => ContainsSaid::Yes,
-        FindSaid::Absent => ContainsSaid::No,
-        FindSaid::Shape => ContainsSaid::Shape,
-        FindSaid::ZeroHash => ContainsSaid::ZeroHash,
-        FindSaid::Broken => ContainsSaid::Broken,
-    }
+    let said = find(words, deltas, table, key).said?;
+    Ok(said.is_some())
 }
 
 #[derive(Clone, Copy)]
@@ -73,28 +53,15 @@ pub struct KeyValue {
     pub value: u64,
 }
 
-#[derive(Clone, Copy)]
-pub enum KeyValueSaid {
-    Pair(KeyValue),
-    Absent,
-    // 1
-    Shape,
-    // 2
-    ZeroHash,
-    // 5
-    Broken,
-}
-
-// The key with its value; Absent for a removed key too. Refusals: 1, 2, then 5 from the walk.
-pub fn get_key_value(words: &[u64], deltas: &[u8], table: Table, key: u64) -> KeyValueSaid
+// The key with its value; none for a removed key too. Refusals: 1, 2, then 5 from the walk.
+pub fn get_key_value(
+    words: &[u64],
+    deltas: &[u8],
+    table: Table,
+    key: u64,
+) -> Result<Option<KeyValue>, LookupError>
     ensures { key_value_said result ≡ key_value key (find·rule (lent words.now deltas.now table) key).said }
 {
-    let said = find(words, deltas, table, key).said;
-    match said {
-        FindSaid::Found(value) => KeyValueSaid::Pair(KeyValue { key, value }),
-        FindSaid::Absent => KeyValueSaid::Absent,
-        FindSaid::Shape => KeyValueSaid::Shape,
-        FindSaid::ZeroHash => KeyValueSaid::ZeroHash,
-        FindSaid::Broken => KeyValueSaid::Broken,
-    }
+    let found = find(words, deltas, table, key).said?;
+    Ok(found.map(|value| KeyValue { key, value }))
 }
