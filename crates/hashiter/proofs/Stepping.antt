@@ -62,5 +62,5 @@ module _ {ws : List ℕ} {S position i : ℕ} (g : Going ws S position i) where
     pub going_past : b ≡ false → Going ws S position (i + 1)
     going_past t = record { same = λ h ds. g.same h ds ∙ step_past (params_of S h) (view ws ds) (value_in ws) i u (sym e ∙ t) }
 
-  pub going_end : S ≤ i → (h : Hasher) (ds : List ℕ) → record { said = end; position = i } ≡ step_in (params_of S h) (view ws ds) (value_in ws) position
-  going_end u h ds = sym (g.same h ds ∙ step_over (params_of S h) (view ws ds) (value_in ws) i u)
+  pub going_end : S ≤ i → {n : ℕ} → n ≡ i → (h : Hasher) (ds : List ℕ) → record { said = end; position = n } ≡ step_in (params_of S h) (view ws ds) (value_in ws) position
+  going_end u e h ds = (λ x. record { said = end; position = e x }) ∙ sym (g.same h ds ∙ step_over (params_of S h) (view ws ds) (value_in ws) i u)
