@@ -2,16 +2,14 @@
 use mathlib.Core.List.{List}
 use mathlib.Core.Path.{◌≡◌, refl}
 use Prim.Native.Nat.{ℕ}
+use Rattle.std.specs.Prelude.{Result, Ok, Err}
 use Rattle.hashers.specs.Writes.{Wrote, taken, refused, simple_said, simple_write, simple_start, murmur_said, murmur_write, murmur_start, fnv_write, fnv_start}
 use Rattle.hashers.specs.Keys.{hash_of}
 use Rattle.hashers.specs.Exports.{simple_c, murmur_c, fnv_c}
 use Rattle.hashers.specs.declared.Hasher.{Hasher}
+use Rattle.hashers.specs.declared.Unwritten.{Unwritten}
 use Rattle.hashers.specs.declared.simple.SimpleHasher.{SimpleHasher}
-use Rattle.hashers.specs.declared.simple.SimpleWrite.{SimpleWrite}
-use Rattle.hashers.specs.declared.simple.SimpleWrite.TheVariants as simple
 use Rattle.hashers.specs.declared.murmur.MurmurHasher.{MurmurHasher}
-use Rattle.hashers.specs.declared.murmur.MurmurWrite.{MurmurWrite}
-use Rattle.hashers.specs.declared.murmur.MurmurWrite.TheVariants as murmur
 use Rattle.hashers.specs.declared.fnv.FnvHasher.{FnvHasher}
 use Rattle.outcomes.proofs.One.{both, one}
 
@@ -21,15 +19,15 @@ pub simple_hasher_new_one_outcome : (r₁ r₂ : SimpleHasher) → r₁ ≡ simp
 simple_hasher_new_one_outcome r₁ r₂ e₁ e₂ = both e₁ e₂
 
 -- the answer that is said so
-abbrev simple_unsaid : Wrote → SimpleWrite
-simple_unsaid (taken n) = simple.Written (record { 0 = n })
-simple_unsaid (refused k n) = simple.Length (record { 0 = n })
+abbrev simple_unsaid : Wrote → Result SimpleHasher (Unwritten SimpleHasher)
+simple_unsaid (taken n) = Ok (record { 0 = n })
+simple_unsaid (refused k n) = Err (record { 0 = record { 0 = n } })
 
-simple_back : (a : SimpleWrite) → simple_unsaid (simple_said a) ≡ a
-simple_back (simple.Written h) = refl
-simple_back (simple.Length h) = refl
+simple_back : (a : Result SimpleHasher (Unwritten SimpleHasher)) → simple_unsaid (simple_said a) ≡ a
+simple_back (Ok h) = refl
+simple_back (Err e) = refl
 
-pub simple_hasher_write_one_outcome : (self : SimpleHasher) (bytes : List ℕ) (r₁ r₂ : SimpleWrite)
+pub simple_hasher_write_one_outcome : (self : SimpleHasher) (bytes : List ℕ) (r₁ r₂ : Result SimpleHasher (Unwritten SimpleHasher))
     → simple_said r₁ ≡ simple_write self.0 bytes
     → simple_said r₂ ≡ simple_write self.0 bytes
     → r₁ ≡ r₂
@@ -43,15 +41,15 @@ simple_hasher_finish_one_outcome self r₁ r₂ e₁ e₂ = both e₁ e₂
 pub murmur_hasher_new_one_outcome : (r₁ r₂ : MurmurHasher) → r₁ ≡ murmur_start → r₂ ≡ murmur_start → r₁ ≡ r₂
 murmur_hasher_new_one_outcome r₁ r₂ e₁ e₂ = both e₁ e₂
 
-abbrev murmur_unsaid : Wrote → MurmurWrite
-murmur_unsaid (taken n) = murmur.Written (record { 0 = n })
-murmur_unsaid (refused k n) = murmur.Length (record { 0 = n })
+abbrev murmur_unsaid : Wrote → Result MurmurHasher (Unwritten MurmurHasher)
+murmur_unsaid (taken n) = Ok (record { 0 = n })
+murmur_unsaid (refused k n) = Err (record { 0 = record { 0 = n } })
 
-murmur_back : (a : MurmurWrite) → murmur_unsaid (murmur_said a) ≡ a
-murmur_back (murmur.Written h) = refl
-murmur_back (murmur.Length h) = refl
+murmur_back : (a : Result MurmurHasher (Unwritten MurmurHasher)) → murmur_unsaid (murmur_said a) ≡ a
+murmur_back (Ok h) = refl
+murmur_back (Err e) = refl
 
-pub murmur_hasher_write_one_outcome : (self : MurmurHasher) (bytes : List ℕ) (r₁ r₂ : MurmurWrite)
+pub murmur_hasher_write_one_outcome : (self : MurmurHasher) (bytes : List ℕ) (r₁ r₂ : Result MurmurHasher (Unwritten MurmurHasher))
     → murmur_said r₁ ≡ murmur_write self.0 bytes
     → murmur_said r₂ ≡ murmur_write self.0 bytes
     → r₁ ≡ r₂

@@ -2,6 +2,7 @@
 use mathlib.Core.List.{List}
 use mathlib.Core.Path.{◌≡◌, refl, ap}
 use Prim.Native.Nat.{ℕ, zero, suc}
+use Rattle.std.specs.Prelude.{Option, Some, None, Result, Ok, Err}
 use Rattle.rules.specs.Answers.{Said, found, absent, new, replaced, revived, removed, refused}
 use Rattle.rules.specs.Cursor as rule
 use Rattle.rules.specs.Cursor.{set_value, start as start·rule, step as step·rule}
@@ -9,11 +10,11 @@ use Rattle.cells.specs.Layout.{Done, lent, done_by}
 use Rattle.cells.specs.declared.Table.{Table}
 use Rattle.hashiter.specs.Answers.{step_said, stepped, set_said, set_done}
 use Rattle.hashiter.specs.declared.Cursor.{Cursor}
-use Rattle.hashiter.specs.declared.StepSaid.{StepSaid}
-use Rattle.hashiter.specs.declared.StepSaid.TheVariants as steps
+use Rattle.cells.specs.declared.ShapeError.{ShapeError}
+use Rattle.hashiter.specs.declared.LiveCell.{LiveCell}
 use Rattle.hashiter.specs.declared.Stepped.{Stepped}
-use Rattle.hashiter.specs.declared.SetSaid.{SetSaid}
-use Rattle.hashiter.specs.declared.SetSaid.TheVariants as sets
+use Rattle.hashiter.specs.declared.SetError.{SetError}
+use Rattle.hashiter.specs.declared.SetError.TheVariants as sets
 use Rattle.outcomes.proofs.One.{both, one}
 
 -- ---- the cursor
@@ -22,15 +23,15 @@ pub cursor_start_one_outcome : (r₁ r₂ : Cursor) → r₁.position ≡ start�
 cursor_start_one_outcome r₁ r₂ e₁ e₂ = λ i. record { position = both e₁ e₂ i }
 
 -- the answer that is said so
-abbrev unstep : rule.StepSaid → StepSaid
-unstep (rule.next i k v) = steps.Next (record { index = i; key = k; value = v })
-unstep rule.end = steps.End
-unstep (rule.refusal n) = steps.Shape
+abbrev unstep : rule.StepSaid → Result (Option LiveCell) ShapeError
+unstep (rule.next i k v) = Ok (Some (record { index = i; key = k; value = v }))
+unstep rule.end = Ok None
+unstep (rule.refusal n) = Err (record {})
 
-step_back : (a : StepSaid) → unstep (step_said a) ≡ a
-step_back (steps.Next c) = refl
-step_back steps.End = refl
-step_back steps.Shape = refl
+step_back : (a : Result (Option LiveCell) ShapeError) → unstep (step_said a) ≡ a
+step_back (Ok (Some c)) = refl
+step_back (Ok None) = refl
+step_back (Err e) = refl
 
 abbrev unstepped : rule.Step → Stepped
 unstepped y = record { cursor = record { position = y.position }; said = unstep y.said }
@@ -46,24 +47,24 @@ cursor_step_one_outcome self words deltas table r₁ r₂ e₁ e₂ = one steppe
 
 -- ---- setting a value
 
-abbrev unset : Said → SetSaid
-unset (replaced v) = sets.Replaced v
-unset absent = sets.Absent
-unset (refused zero l) = sets.Null
-unset (refused (suc zero) l) = sets.Shape
-unset (refused (suc (suc n)) l) = sets.Null
-unset (found v) = sets.Null
-unset new = sets.Null
-unset revived = sets.Null
-unset (removed v) = sets.Null
+abbrev unset : Said → Result (Option ℕ) SetError
+unset (replaced v) = Ok (Some v)
+unset absent = Ok None
+unset (refused zero l) = Err sets.Null
+unset (refused (suc zero) l) = Err sets.Shape
+unset (refused (suc (suc n)) l) = Err sets.Null
+unset (found v) = Ok None
+unset new = Ok None
+unset revived = Ok None
+unset (removed v) = Ok None
 
-set_back : (a : SetSaid) → unset (set_said a) ≡ a
-set_back (sets.Replaced v) = refl
-set_back sets.Absent = refl
-set_back sets.Shape = refl
-set_back sets.Null = refl
+set_back : (a : Result (Option ℕ) SetError) → unset (set_said a) ≡ a
+set_back (Ok (Some v)) = refl
+set_back (Ok None) = refl
+set_back (Err sets.Shape) = refl
+set_back (Err sets.Null) = refl
 
-pub set_value_one_outcome : (words deltas : List ℕ) (table : Table) (index value : ℕ) (r₁ r₂ : SetSaid) (words₁ words₂ : List ℕ)
+pub set_value_one_outcome : (words deltas : List ℕ) (table : Table) (index value : ℕ) (r₁ r₂ : Result (Option ℕ) SetError) (words₁ words₂ : List ℕ)
     → set_done r₁ table.live words₁ deltas ≡ done_by (set_value (lent words deltas table) index value) words deltas
     → set_done r₂ table.live words₂ deltas ≡ done_by (set_value (lent words deltas table) index value) words deltas
     → (r₁ ≡ r₂) × (words₁ ≡ words₂)

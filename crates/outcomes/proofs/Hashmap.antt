@@ -2,38 +2,37 @@
 use mathlib.Core.List.{List, [], ◌∷◌}
 use mathlib.Core.Path.{◌≡◌, refl, ap}
 use Prim.Native.Nat.{ℕ, zero, suc}
+use Rattle.std.specs.Prelude.{Option, Some, None, Result, Ok, Err}
 use Rattle.hashers.specs.declared.Hasher.{Hasher}
 use Rattle.rules.specs.Answers.{Said, found, absent, new, replaced, revived, removed, refused, Answer}
 use Rattle.rules.specs.Calls.{find as find·rule, remove as remove·rule, insert as insert·rule}
 use Rattle.cells.specs.Layout.{Left, lent, left_by}
-use Rattle.cells.specs.Workers.{insert_said}
 use Rattle.cells.specs.declared.Table.{Table}
+use Rattle.cells.specs.declared.ShapeError.{ShapeError}
 use Rattle.cells.specs.declared.insert.InsertSaid.{InsertSaid}
-use Rattle.cells.specs.declared.insert.InsertSaid.TheVariants as inserts
-use Rattle.hashmap.specs.Answers.{find_said, find_answer, remove_said, remove_left, insert_left, Clear, cleared, refuses, Cleared, clear_said, clear_left, clear_rule}
-use Rattle.hashmap.specs.declared.FindSaid.{FindSaid}
-use Rattle.hashmap.specs.declared.FindSaid.TheVariants as finds
+use Rattle.cells.specs.declared.insert.InsertSaid.TheVariants as puts
+use Rattle.hashmap.specs.Answers.{find_said, find_answer, remove_said, remove_left, insert_said, insert_left, Clear, cleared, refuses, Cleared, clear_said, clear_left, clear_rule}
+use Rattle.hashmap.specs.declared.LookupError.{LookupError}
+use Rattle.hashmap.specs.declared.LookupError.TheVariants as lookups
 use Rattle.hashmap.specs.declared.FindAnswer.{FindAnswer}
-use Rattle.hashmap.specs.declared.RemoveSaid.{RemoveSaid}
-use Rattle.hashmap.specs.declared.RemoveSaid.TheVariants as removes
 use Rattle.hashmap.specs.declared.RemoveAnswer.{RemoveAnswer}
+use Rattle.hashmap.specs.declared.InsertError.{InsertError}
+use Rattle.hashmap.specs.declared.InsertError.TheVariants as inserts
 use Rattle.hashmap.specs.declared.InsertAnswer.{InsertAnswer}
-use Rattle.hashmap.specs.declared.ClearSaid.{ClearSaid}
-use Rattle.hashmap.specs.declared.ClearSaid.TheVariants as clears
 use Rattle.outcomes.proofs.One.{both, one}
 
 -- ---- clear
 
 -- the answer that is said so
-abbrev unclear : Clear → ClearSaid
-unclear (cleared t) = clears.Cleared t
-unclear (refuses n) = clears.Shape
+abbrev unclear : Clear → Result Table ShapeError
+unclear (cleared t) = Ok t
+unclear (refuses n) = Err (record {})
 
-clear_back : (a : ClearSaid) → unclear (clear_said a) ≡ a
-clear_back (clears.Cleared t) = refl
-clear_back clears.Shape = refl
+clear_back : (a : Result Table ShapeError) → unclear (clear_said a) ≡ a
+clear_back (Ok t) = refl
+clear_back (Err e) = refl
 
-pub clear_one_outcome : (words deltas : List ℕ) (hasher : Hasher) (r₁ r₂ : ClearSaid) (words₁ deltas₁ words₂ deltas₂ : List ℕ)
+pub clear_one_outcome : (words deltas : List ℕ) (hasher : Hasher) (r₁ r₂ : Result Table ShapeError) (words₁ deltas₁ words₂ deltas₂ : List ℕ)
     → clear_left r₁ words₁ deltas₁ ≡ clear_rule words deltas hasher
     → clear_left r₂ words₂ deltas₂ ≡ clear_rule words deltas hasher
     → (r₁ ≡ r₂) × (words₁ ≡ words₂) × (deltas₁ ≡ deltas₂)
@@ -43,24 +42,27 @@ clear_one_outcome words deltas hasher r₁ r₂ words₁ deltas₁ words₂ delt
 
 -- ---- find
 
-abbrev unfind : Said → FindSaid
-unfind (found v) = finds.Found v
-unfind absent = finds.Absent
-unfind (refused (suc zero) l) = finds.Shape
-unfind (refused (suc (suc zero)) l) = finds.ZeroHash
-unfind (refused (suc (suc (suc n))) l) = finds.Broken
-unfind (refused zero l) = finds.Broken
-unfind new = finds.Broken
-unfind (replaced v) = finds.Broken
-unfind revived = finds.Broken
-unfind (removed v) = finds.Broken
+abbrev unfailed : ℕ → LookupError
+unfailed zero = lookups.Broken
+unfailed (suc zero) = lookups.Shape
+unfailed (suc (suc zero)) = lookups.ZeroHash
+unfailed (suc (suc (suc n))) = lookups.Broken
 
-find_back : (a : FindSaid) → unfind (find_said a) ≡ a
-find_back (finds.Found v) = refl
-find_back finds.Absent = refl
-find_back finds.Shape = refl
-find_back finds.ZeroHash = refl
-find_back finds.Broken = refl
+abbrev unfind : Said → Result (Option ℕ) LookupError
+unfind (found v) = Ok (Some v)
+unfind absent = Ok None
+unfind (refused n l) = Err (unfailed n)
+unfind new = Ok None
+unfind (replaced v) = Ok None
+unfind revived = Ok None
+unfind (removed v) = Ok None
+
+find_back : (a : Result (Option ℕ) LookupError) → unfind (find_said a) ≡ a
+find_back (Ok (Some v)) = refl
+find_back (Ok None) = refl
+find_back (Err lookups.Shape) = refl
+find_back (Err lookups.ZeroHash) = refl
+find_back (Err lookups.Broken) = refl
 
 abbrev unfound : Answer → FindAnswer
 unfound y = record { said = unfind y.said; looked = y.looked }
@@ -80,27 +82,24 @@ find_one_outcome words deltas table key r₁ r₂ e₁ e₂ = find_answer_one r�
 
 -- ---- remove
 
-abbrev unremove : Said → RemoveSaid
-unremove (removed v) = removes.Removed v
-unremove absent = removes.Absent
-unremove (refused (suc zero) l) = removes.Shape
-unremove (refused (suc (suc zero)) l) = removes.ZeroHash
-unremove (refused (suc (suc (suc n))) l) = removes.Broken
-unremove (refused zero l) = removes.Broken
-unremove new = removes.Broken
-unremove (replaced v) = removes.Broken
-unremove revived = removes.Broken
-unremove (found v) = removes.Broken
+abbrev unremove : Said → Result (Option ℕ) LookupError
+unremove (removed v) = Ok (Some v)
+unremove absent = Ok None
+unremove (refused n l) = Err (unfailed n)
+unremove new = Ok None
+unremove (replaced v) = Ok None
+unremove revived = Ok None
+unremove (found v) = Ok None
 
-remove_back : (a : RemoveSaid) → unremove (remove_said a) ≡ a
-remove_back (removes.Removed v) = refl
-remove_back removes.Absent = refl
-remove_back removes.Shape = refl
-remove_back removes.ZeroHash = refl
-remove_back removes.Broken = refl
+remove_back : (a : Result (Option ℕ) LookupError) → unremove (remove_said a) ≡ a
+remove_back (Ok (Some v)) = refl
+remove_back (Ok None) = refl
+remove_back (Err lookups.Shape) = refl
+remove_back (Err lookups.ZeroHash) = refl
+remove_back (Err lookups.Broken) = refl
 
 -- what a remove says, from a growing table too
-pub remove_said_one : (a b : RemoveSaid) → remove_said a ≡ remove_said b → a ≡ b
+pub remove_said_one : (a b : Result (Option ℕ) LookupError) → remove_said a ≡ remove_said b → a ≡ b
 remove_said_one a b e = one remove_said unremove remove_back a b e
 
 pub remove_one_outcome : (words deltas : List ℕ) (table : Table) (key : ℕ) (r₁ r₂ : RemoveAnswer) (words₁ words₂ : List ℕ)
@@ -114,30 +113,30 @@ remove_one_outcome words deltas table key r₁ r₂ words₁ words₂ e₁ e₂ 
 
 -- ---- insert
 
-abbrev uninsert : Said → InsertSaid
-uninsert new = inserts.New
-uninsert (replaced v) = inserts.Replaced v
-uninsert revived = inserts.Revived
-uninsert (refused zero l) = inserts.Broken
-uninsert (refused (suc zero) l) = inserts.Shape
-uninsert (refused (suc (suc zero)) l) = inserts.ZeroHash
-uninsert (refused (suc (suc (suc zero))) l) = inserts.Null
-uninsert (refused (suc (suc (suc (suc zero)))) []) = inserts.Broken
-uninsert (refused (suc (suc (suc (suc zero)))) (p ∷ l)) = inserts.Full (record { position = p })
-uninsert (refused (suc (suc (suc (suc (suc n))))) l) = inserts.Broken
-uninsert (found v) = inserts.Broken
-uninsert absent = inserts.Broken
-uninsert (removed v) = inserts.Broken
+abbrev uninsert : Said → Result InsertSaid InsertError
+uninsert new = Ok puts.New
+uninsert (replaced v) = Ok (puts.Replaced v)
+uninsert revived = Ok puts.Revived
+uninsert (refused zero l) = Err inserts.Broken
+uninsert (refused (suc zero) l) = Err inserts.Shape
+uninsert (refused (suc (suc zero)) l) = Err inserts.ZeroHash
+uninsert (refused (suc (suc (suc zero))) l) = Err inserts.Null
+uninsert (refused (suc (suc (suc (suc zero)))) []) = Err inserts.Broken
+uninsert (refused (suc (suc (suc (suc zero)))) (p ∷ l)) = Err (inserts.Full (record { position = p }))
+uninsert (refused (suc (suc (suc (suc (suc n))))) l) = Err inserts.Broken
+uninsert (found v) = Err inserts.Broken
+uninsert absent = Err inserts.Broken
+uninsert (removed v) = Err inserts.Broken
 
-insert_back : (a : InsertSaid) → uninsert (insert_said a) ≡ a
-insert_back inserts.New = refl
-insert_back (inserts.Replaced v) = refl
-insert_back inserts.Revived = refl
-insert_back inserts.Shape = refl
-insert_back inserts.ZeroHash = refl
-insert_back inserts.Null = refl
-insert_back (inserts.Full at) = refl
-insert_back inserts.Broken = refl
+insert_back : (a : Result InsertSaid InsertError) → uninsert (insert_said a) ≡ a
+insert_back (Ok puts.New) = refl
+insert_back (Ok (puts.Replaced v)) = refl
+insert_back (Ok puts.Revived) = refl
+insert_back (Err inserts.Shape) = refl
+insert_back (Err inserts.ZeroHash) = refl
+insert_back (Err inserts.Null) = refl
+insert_back (Err (inserts.Full at)) = refl
+insert_back (Err inserts.Broken) = refl
 
 pub insert_one_outcome : (words deltas : List ℕ) (table : Table) (key value : ℕ) (r₁ r₂ : InsertAnswer) (words₁ deltas₁ words₂ deltas₂ : List ℕ)
     → insert_left r₁ words₁ deltas₁ ≡ left_by (insert·rule (lent words deltas table) key value) table words deltas
