@@ -34,8 +34,8 @@ pub struct View<'a> {
 
 impl View<'_> {
     // The home, then the home's first delta, then second deltas, until the key is met, a delta is 0, or S - 1 links are followed.
-    pub fn walk_to(self, hash: u64, key: u64) -> Walked
-        ensures { Ends (stop_of result.stop) result.looked (walk self.entry.size (view self.entry.words.now self.entry.deltas.now) hash key) }
+    pub fn walk_to(&self, hash: u64, key: u64) -> Walked
+        ensures { Ends (stop_of result.stop) result.looked (walk self.now.size (view self.now.words.now self.now.deltas.now) hash key) }
     {
         let words = self.words;
         let deltas = self.deltas;
@@ -75,9 +75,9 @@ impl View<'_> {
     }
 
     // The next so many positions past a tail: the distance of the first empty cell, if there is one.
-    pub fn probe_from(self, count: usize, tail: u64) -> Option<usize>
+    pub fn probe_from(&self, count: usize, tail: u64) -> Option<usize>
         requires { count ≤ 128 }
-        ensures { hit_of result ≡ (probe self.entry.size (hash_in self.entry.words.now) tail count 1).hit }
+        ensures { hit_of result ≡ (probe self.now.size (hash_in self.now.words.now) tail count 1).hit }
     {
         let words = self.words;
         let size = self.size;

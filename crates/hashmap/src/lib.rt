@@ -97,8 +97,8 @@ pub fn clear(words: &mut [u64], deltas: &mut [u8], hasher: Hasher) -> Result<Tab
 }
 
 // Behind the checks of find.
-fn find_in(table: View, hash: u64, key: u64) -> FindAnswer
-    ensures { find_answer result ≡ find_in table.entry.size null (view table.entry.words.now table.entry.deltas.now) (value_in table.entry.words.now) hash key }
+fn find_in(table: &View<'_>, hash: u64, key: u64) -> FindAnswer
+    ensures { find_answer result ≡ find_in table.now.size null (view table.now.words.now table.now.deltas.now) (value_in table.now.words.now) hash key }
 {
     let walked = table.walk_to(hash, key);
     let looked = walked.looked;
@@ -149,7 +149,7 @@ pub fn find(words: &[u64], deltas: &[u8], table: Table, key: u64) -> FindAnswer
         deltas,
         size,
     };
-    find_in(view, hash, key)
+    find_in(&view, hash, key)
 }
 
 // Inserts a value under a key, or replaces the one there. Refusals: 1, 3, 2, then 4 or 5 from the walk.

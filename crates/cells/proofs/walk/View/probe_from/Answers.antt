@@ -8,7 +8,7 @@ pub loop-d-init : goal.loop-d-init
 loop-d-init c = probing_start _ _ _ _ 1
 
 pub hash_at-requires : goal.hash_at-requires
-hash_at-requires c = in_words c.args.self.shaped _ c.cell_of.ensures
+hash_at-requires c = in_words c.args.self.now.shaped _ c.cell_of.ensures
 
 pub returns-then-hash_at-eq0 : goal.returns-then-hash_at-eq0
 returns-then-hash_at-eq0 c = probing_free _ _ _ _ _ c.loop-d.invariant (omega (arith, c.loop-d-test.true)) _ _ _ c.wrapping_add_u64-at.ensures.value c.cell_of.ensures c.hash_at.ensures c.if-hash_at-eq0.true
