@@ -9,7 +9,7 @@ ghost use Rattle.cells.specs.Layout.{Shaped, null, view, hash_in, value_in, link
 ghost use Rattle.cells.specs.Workers.{stop_of, InsertedBy, insert_tail};
 
 use crate::slices::{fill_cell, hash_at, set_first, set_second, store_value, value_at};
-use crate::walk::{Stop, Walked, probe_from, walk_to};
+use crate::walk::{Stop, View, Walked};
 use crate::{Cell, Table, cell_of, window_of};
 use std::num::wrapping_add_u64;
 
@@ -133,7 +133,12 @@ fn insert_tail(
     ensures { InsertedBy result (insert_tail size (view words.old deltas.old) (counts_of live) looked cell.hash cell.key cell.value tail) words.old deltas.old words.new deltas.new }
 {
     let count = window_of(size);
-    match probe_from(words, size, count, tail) {
+    let view = View {
+        words,
+        deltas,
+        size,
+    };
+    match view.probe_from(count, tail) {
         Some(d) => {
             if live < size {
                 let at = cell_of(wrapping_add_u64(tail, d as u64), size);
@@ -205,6 +210,11 @@ pub fn insert_stored(
     if hash_at(words, home) == 0 {
         return insert_home(words, size, live, home, cell);
     }
-    let walked = walk_to(words, deltas, size, cell.hash, cell.key);
+    let view = View {
+        words,
+        deltas,
+        size,
+    };
+    let walked = view.walk_to(cell.hash, cell.key);
     insert_walked(words, deltas, size, live, cell, walked)
 }

@@ -1,6 +1,5 @@
 // The walk to a key, and the probe past a tail.
-ghost use Rattle.std.specs.Prelude.{◌≡◌, ◌*◌, ◌≤◌, true, length};
-ghost use Rattle.rules.specs.Sizes.{is_size};
+ghost use Rattle.std.specs.Prelude.{◌≡◌, ◌≤◌};
 ghost use Rattle.rules.specs.Walk.{walk, probe};
 ghost use Rattle.steps.specs.Steps.{Ends};
 ghost use Rattle.cells.specs.Layout.{Shaped, view, hash_in};
@@ -24,55 +23,70 @@ pub struct Walked {
     pub looked: usize,
 }
 
-// The home, then the home's first delta, then second deltas, until the key is met, a delta is 0, or S - 1 links are followed.
-pub fn walk_to(words: &[u64], deltas: &[u8], size: usize, hash: u64, key: u64) -> Walked
-    requires { Shaped size words.now deltas.now }
-    ensures { Ends (stop_of result.stop) result.looked (walk size (view words.now deltas.now) hash key) }
-{
-    let home = cell_of(hash, size);
-    if holds_at(words, home, hash, key) {
-        return Walked {
-            stop: Stop::Met(hash),
-            looked: 1,
-        };
-    }
-    let mut at = hash;
-    let mut looked: usize = 1;
-    let mut delta = first_delta(deltas, home);
-    while delta != 0 {
-        if looked == size {
-            return Walked {
-                stop: Stop::Broken,
-                looked,
-            };
-        }
-        at = wrapping_add_u64(at, delta);
-        looked += 1;
-        let i = cell_of(at, size);
-        if holds_at(words, i, hash, key) {
-            return Walked {
-                stop: Stop::Met(at),
-                looked,
-            };
-        }
-        delta = second_delta(deltas, i);
-    }
-    Walked {
-        stop: Stop::Tail(at),
-        looked,
-    }
+// What a walk reads: the slices hold so many cells, and may go on past them.
+#[derive(Clone, Copy)]
+pub struct View<'a> {
+    pub words: &'a [u64],
+    pub deltas: &'a [u8],
+    pub size: usize,
+    pub ghost shaped: { Shaped size words.now deltas.now },
 }
 
-// The next so many positions past a tail: the distance of the first empty cell, if there is one.
-pub fn probe_from(words: &[u64], size: usize, count: usize, tail: u64) -> Option<usize>
-    requires { (is_size size ≡ true) × (3 * size ≤ length words.now) × (count ≤ 128) }
-    ensures { hit_of result ≡ (probe size (hash_in words.now) tail count 1).hit }
-{
-    for d in 1..count + 1 {
-        let at = wrapping_add_u64(tail, d as u64);
-        if hash_at(words, cell_of(at, size)) == 0 {
-            return Some(d);
+impl View<'_> {
+    // The home, then the home's first delta, then second deltas, until the key is met, a delta is 0, or S - 1 links are followed.
+    pub fn walk_to(&self, hash: u64, key: u64) -> Walked
+        ensures { Ends (stop_of result.stop) result.looked (walk self.now.size (view self.now.words.now self.now.deltas.now) hash key) }
+    {
+        let words = self.words;
+        let deltas = self.deltas;
+        let size = self.size;
+        let home = cell_of(hash, size);
+        if holds_at(words, home, hash, key) {
+            return Walked {
+                stop: Stop::Met(hash),
+                looked: 1,
+            };
+        }
+        let mut at = hash;
+        let mut looked: usize = 1;
+        let mut delta = first_delta(deltas, home);
+        while delta != 0 {
+            if looked == size {
+                return Walked {
+                    stop: Stop::Broken,
+                    looked,
+                };
+            }
+            at = wrapping_add_u64(at, delta);
+            looked += 1;
+            let i = cell_of(at, size);
+            if holds_at(words, i, hash, key) {
+                return Walked {
+                    stop: Stop::Met(at),
+                    looked,
+                };
+            }
+            delta = second_delta(deltas, i);
+        }
+        Walked {
+            stop: Stop::Tail(at),
+            looked,
         }
     }
-    None
+
+    // The next so many positions past a tail: the distance of the first empty cell, if there is one.
+    pub fn probe_from(&self, count: usize, tail: u64) -> Option<usize>
+        requires { count ≤ 128 }
+        ensures { hit_of result ≡ (probe self.now.size (hash_in self.now.words.now) tail count 1).hit }
+    {
+        let words = self.words;
+        let size = self.size;
+        for d in 1..count + 1 {
+            let at = wrapping_add_u64(tail, d as u64);
+            if hash_at(words, cell_of(at, size)) == 0 {
+                return Some(d);
+            }
+        }
+        None
+    }
 }

@@ -11,7 +11,7 @@ use cells::clear::{clear_deltas, clear_words};
 pub use cells::insert::{FullAt, InsertSaid};
 use cells::insert::{WalkError, insert_stored};
 use cells::slices::{store_value, value_at};
-use cells::walk::{Stop, walk_to};
+use cells::walk::{Stop, View};
 pub use cells::{ShapeError, Table};
 use cells::{Cell, cell_of, is_shaped, offer, size_of};
 use hashers::{Hasher, hash_of};
@@ -97,15 +97,14 @@ pub fn clear(words: &mut [u64], deltas: &mut [u8], hasher: Hasher) -> Result<Tab
 }
 
 // Behind the checks of find.
-fn find_in(words: &[u64], deltas: &[u8], size: usize, hash: u64, key: u64) -> FindAnswer
-    requires { Shaped size words.now deltas.now }
-    ensures { find_answer result ≡ find_in size null (view words.now deltas.now) (value_in words.now) hash key }
+fn find_in(table: &View<'_>, hash: u64, key: u64) -> FindAnswer
+    ensures { find_answer result ≡ find_in table.now.size null (view table.now.words.now table.now.deltas.now) (value_in table.now.words.now) hash key }
 {
-    let walked = walk_to(words, deltas, size, hash, key);
+    let walked = table.walk_to(hash, key);
     let looked = walked.looked;
     match walked.stop {
         Stop::Met(at) => {
-            let value = value_at(words, cell_of(at, size));
+            let value = value_at(table.words, cell_of(at, table.size));
             if value == Table::NULL {
                 return FindAnswer {
                     said: Ok(None),
@@ -145,7 +144,12 @@ pub fn find(words: &[u64], deltas: &[u8], table: Table, key: u64) -> FindAnswer
             looked: 0,
         };
     }
-    find_in(words, deltas, size, hash, key)
+    let view = View {
+        words,
+        deltas,
+        size,
+    };
+    find_in(&view, hash, key)
 }
 
 // Inserts a value under a key, or replaces the one there. Refusals: 1, 3, 2, then 4 or 5 from the walk.
@@ -244,7 +248,12 @@ fn remove_in(
     requires { Shaped size words.old deltas.now }
     ensures { remove_done result words.new deltas.now ≡ done_by (remove_in size null (view words.old deltas.now) (value_in words.old) (counts_of live) hash key) words.old deltas.now }
 {
-    let walked = walk_to(words, deltas, size, hash, key);
+    let view = View {
+        words,
+        deltas,
+        size,
+    };
+    let walked = view.walk_to(hash, key);
     let looked = walked.looked;
     match walked.stop {
         Stop::Met(at) => {

@@ -10,8 +10,8 @@ returns-in_default c = find_shape _ _ (shape_fails (lent c.args.words.now c.args
 pub returns-then-hash-eq0 : goal.returns-then-hash-eq0
 returns-then-hash-eq0 c = find_zero _ _ _ c.hash_of-hash.ensures (shape_passes (lent c.args.words.now c.args.deltas.now c.args.table) (sized _ _ c.in-Some.ensures).0) c.if-hash-eq0.true
 
-pub find_in-requires : goal.find_in-requires
-find_in-requires c = (sized_shape _ _ _ c.in-Some.ensures).0
+pub invariant_of-view : goal.invariant_of-view
+invariant_of-view c = record { shaped = (sized_shape _ _ _ c.in-Some.ensures).0 }
 
 pub returns : goal.returns
 returns c =

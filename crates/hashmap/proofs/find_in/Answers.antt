@@ -6,7 +6,7 @@ use Rattle.cells.proofs.Shapes.{in_words}
 use Rattle.hashmap.proofs.find_in.Goals as goal
 
 pub value_at-value-requires : goal.value_at-value-requires
-value_at-value-requires c = in_words c.requires _ c.cell_of.ensures
+value_at-value-requires c = in_words c.args.table.now.shaped _ c.cell_of.ensures
 
 pub returns-then-value : goal.returns-then-value
 returns-then-value c = find_removed _ _ _ _ _ _ c.walk_to-walked.ensures _ _ _ (ap stop_of c.in-Met.is) c.cell_of.ensures c.value_at-value.ensures c.if-value.true
