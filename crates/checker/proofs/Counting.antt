@@ -1,6 +1,5 @@
 -- The checker's loop over the cells: those passed so far passed the test, and the live ones are counted. Assumes nothing.
-use Rattle.std.proofs.Common.{◌≡◌, ℕ, zero, suc, ◌+◌, ◌<◌, ◌≤◌, Bool, true, false, ◌&&◌, cond, eqb, refl, add_comm, add-one, arith}
-use Rattle.std.specs.Prelude.{Option, Some, None}
+use Rattle.std.proofs.Common.{◌≡◌, ℕ, zero, suc, ◌+◌, ◌<◌, ◌≤◌, Bool, true, false, ◌&&◌, eqb, refl, add_comm, add-one, arith}
 use mir.Val.{bool_byte}
 use native.Mathlib.Decide.{ℕ_discrete}
 use Rattle.rules.specs.Cells.{Params, Cells, Counts, Lent, is_live, shape}
@@ -61,15 +60,6 @@ bit_counts true = refl
 bit_counts false = refl
 
 -- ---- the call
-
--- what was given where a size was, and where none was
-pub size_given : (b : Bool) (s x : ℕ) {r : Option ℕ} → r ≡ cond b (Some s) None → r ≡ Some x → (b ≡ true) × (x ≡ s)
-size_given true s x e q = (refl, cc)
-size_given false s x e q = cc
-
-pub none_given : (b : Bool) (s : ℕ) {r : Option ℕ} → r ≡ cond b (Some s) None → r ≡ None → b ≡ false
-none_given true s e q = cc
-none_given false s e q = refl
 
 module _ (l : Lent) where
   pub check_shape : shape l ≡ 1 → refused 1 ≡ check_rule l
