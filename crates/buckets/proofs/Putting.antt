@@ -12,9 +12,9 @@ use lib.Seq.{set-get_or, get_or-set_other, sets}
 use Rattle.cells.specs.Layout.{is_shaped}
 use Rattle.buckets.specs.Buckets.{listed, cell_at, bucket_at, delta_in, cell_in, words_of, words_with, deltas_with, fits_bucket, filled_by, with_cell, done, taking, putting, changing}
 use Rattle.buckets.specs.declared.Bucket.{Bucket}
-use Rattle.buckets.specs.declared.Cell.{Cell}
+use Rattle.cells.specs.declared.Cell.{Cell}
 use Rattle.buckets.proofs.Lists.{spelt, listed_same, get_d_listed, replaced_length, replaced_own, replaced_other}
-use Rattle.buckets.proofs.Stores.{inside, fills, cells_stored, deltas_stored}
+use Rattle.buckets.proofs.Stores.{inside, all_deltas, fills, cells_stored, deltas_stored}
 
 -- ---- lengths, and the other buckets
 
@@ -72,9 +72,6 @@ pub record Whole (k : Bucket) : Type 0 where
   pub deltas : length k.deltas ≡ 8
   pub cells : length k.cells ≡ 4
 
-all_deltas : (k : Bucket) → Whole k → listed 8 (delta_in k) ≡ k.deltas
-all_deltas k w = rw w.deltas at (spelt k.deltas 0)
-
 all_cells : (k : Bucket) → Whole k → listed 4 (cell_in k) ≡ k.cells
 all_cells k w = rw w.cells at (spelt k.cells (record { hash = 0; key = 0; value = 0 }))
 
@@ -119,7 +116,7 @@ module _ (ws ds : List ℕ) (b : ℕ) (k : Bucket) (fit : fits_bucket ws ds b �
   pub put_then_at : Whole k → bucket_at (words_with ws b k) (deltas_with ds b k) b ≡ k
   unfolding bucket_at
   put_then_at w =
-      let d = listed_same 8 (λ j. get_or (deltas_with ds b k) (8 * b + j) 0) (delta_in k) put_delta ∙ all_deltas k w in
+      let d = listed_same 8 (λ j. get_or (deltas_with ds b k) (8 * b + j) 0) (delta_in k) put_delta ∙ all_deltas k w.deltas in
       let c = listed_same 4 (λ j. cell_at (words_with ws b k) (4 * b + j)) (cell_in k) put_cell ∙ all_cells k w in
       λ t. record { deltas = d t; cells = c t }
 

@@ -1,18 +1,21 @@
 -- What the code's tests and stores come to, in the terms of the contracts. Assumes nothing.
 use mathlib.Core.Bool.{Bool, true, false, ◌&&◌}
-use mathlib.Core.List.{List, [], ◌∷◌}
+use mathlib.Core.List.{List, [], ◌∷◌, ◌++◌}
 use mathlib.Core.Path.{◌≡◌, refl, ◌∙◌}
 use Prim.Native.Nat.{ℕ, suc, ◌+◌, ◌*◌, ◌/◌, ◌<◌}
-use native.Mathlib.Numerals.{add-one, add-two, add-three, add-four, add_five, add_six, add_seven}
+use native.Mathlib.Numerals.{add-one, add-two}
 use native.Mathlib.Omega.{arith}
 use borrow.Author.Tests.{ltb-true}
-use lib.ListN.{length, set}
+use lib.ListN.{length, take, drop}
+use Rattle.std.proofs.Common.{append_assoc}
+use Rattle.std.proofs.lemmas.List.{drop-drop}
 use lib.Seq.{sets, sets-eq}
 use Rattle.cells.specs.Layout.{size_in}
 use Rattle.cells.proofs.Shapes.{shaped}
 use Rattle.buckets.specs.Buckets.{listed, fits_bucket, Inside, words_of, filled_by, words_with, deltas_with, delta_in, cell_in}
+use Rattle.buckets.proofs.Lists.{spelt}
 use Rattle.buckets.specs.declared.Bucket.{Bucket}
-use Rattle.buckets.specs.declared.Cell.{Cell}
+use Rattle.cells.specs.declared.Cell.{Cell}
 
 -- ---- the test
 
@@ -35,14 +38,13 @@ pub deltas_stored : (ds : List ℕ) (b : ℕ) (k : Bucket) → 8 * b + 7 < lengt
 unfolding deltas_with
 deltas_stored ds b k h = sets-eq (listed 8 (delta_in k)) ds (8 * b) (omega arith)
 
-pub eight_stores : (ds : List ℕ) (b : ℕ) (k : Bucket) → 8 * b + 7 < length ds →
-    let at = 8 * b in
-    let v = delta_in k in
-    set (set (set (set (set (set (set (set ds at (v 0)) (at + 1) (v 1)) (at + 2) (v 2)) (at + 3) (v 3)) (at + 4) (v 4)) (at + 5) (v 5)) (at + 6) (v 6)) (at + 7) (v 7)
-    ≡ deltas_with ds b k
-eight_stores ds b k h =
-    rw (add-one (8 * b), add-two (8 * b), add-three (8 * b), add-four (8 * b), add_five (8 * b), add_six (8 * b), add_seven (8 * b))
-    (deltas_stored ds b k h)
+pub all_deltas : (k : Bucket) → length k.deltas ≡ 8 → listed 8 (delta_in k) ≡ k.deltas
+all_deltas k own = rw own at (spelt k.deltas 0)
+
+-- and copied as they stand
+pub deltas_copied : (ds : List ℕ) (b : ℕ) (k : Bucket) (v : List ℕ) → v ≡ k.deltas → length v ≡ 8 → take (8 * b) ds ++ (v ++ drop 8 (drop (8 * b) ds)) ≡ deltas_with ds b k
+unfolding deltas_with
+deltas_copied ds b k v e own = rw (all_deltas k (rw e at own), drop-drop 8 (8 * b) ds, append_assoc, e)
 
 -- cells, stored one after the other from cell i on
 abbrev pub fills : List ℕ → ℕ → List Cell → List ℕ
@@ -61,9 +63,3 @@ unfolding words_with
 cells_stored ws b k h =
     let at : 3 * (4 * b) ≡ 12 * b = omega arith in
     fills_sets (listed 4 (cell_in k)) ws (4 * b) ∙ rw at (sets-eq (words_of (listed 4 (cell_in k))) ws (12 * b) (omega arith))
-
-pub four_stores : (ws : List ℕ) (b : ℕ) (k : Bucket) → 12 * b + 11 < length ws →
-    let i = 4 * b in
-    let c = cell_in k in
-    filled_by (filled_by (filled_by (filled_by ws i (c 0)) (i + 1) (c 1)) (i + 2) (c 2)) (i + 3) (c 3) ≡ words_with ws b k
-four_stores ws b k h = rw (add-one (4 * b), add-two (4 * b), add-three (4 * b)) (cells_stored ws b k h)

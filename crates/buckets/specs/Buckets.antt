@@ -1,18 +1,9 @@
 -- Buckets: where they stand in the two lent slices, and what each call on one says and leaves.
-use Rattle.std.specs.Prelude.{Bool, cond, ◌&&◌, List, [], ◌∷◌, ◌++◌, ℕ, zero, suc, ◌+◌, ◌*◌, ◌/◌, ◌<◌, ltb, get_or, set, take, drop, replicate}
+use Rattle.std.specs.Prelude.{Bool, cond, ◌&&◌, List, [], ◌∷◌, ◌++◌, ℕ, zero, suc, ◌+◌, ◌*◌, ◌/◌, ◌<◌, ltb, get_or, set, take, drop, replicate, Result, Ok, Err}
 use Rattle.cells.specs.Layout.{null, hash_in, key_in, value_in, filled, size_in, is_shaped}
-use Rattle.buckets.specs.declared.Cell.{Cell}
+use Rattle.cells.specs.declared.Cell.{Cell}
+use Rattle.cells.specs.declared.ShapeError.{ShapeError}
 use Rattle.buckets.specs.declared.Bucket.{Bucket}
-use Rattle.buckets.specs.declared.TakeAnswer.{TakeAnswer}
-use Rattle.buckets.specs.declared.TakeSaid.{TakeSaid}
-use Rattle.buckets.specs.declared.TakeSaid.TheVariants as take
-use Rattle.buckets.specs.declared.PutSaid.{PutSaid}
-use Rattle.buckets.specs.declared.PutSaid.TheVariants as put
-use Rattle.buckets.specs.declared.CellSaid.{CellSaid}
-use Rattle.buckets.specs.declared.CellSaid.TheVariants as read
-use Rattle.buckets.specs.declared.ChangeAnswer.{ChangeAnswer}
-use Rattle.buckets.specs.declared.ChangeSaid.{ChangeSaid}
-use Rattle.buckets.specs.declared.ChangeSaid.TheVariants as change
 
 -- f 0 to f (n - 1)
 abbrev pub listed : {A : Type 0} → ℕ → (ℕ → A) → List A
@@ -67,32 +58,28 @@ pub data Said : Type 0 where
   refused : ℕ → Said
 
 -- each case's number and value
-abbrev pub take_said : TakeSaid → Said
-take_said take.Taken = done
-take_said take.Shape = refused 1
+abbrev pub put_said : Result Unit ShapeError → Said
+put_said (Ok u) = done
+put_said (Err e) = refused 1
 
-abbrev pub put_said : PutSaid → Said
-put_said put.Put = done
-put_said put.Shape = refused 1
-
-abbrev pub cell_said : CellSaid → Said
-cell_said (read.Cell c) = cell c
-cell_said read.Shape = refused 1
-
-abbrev pub change_said : ChangeSaid → Said
-change_said change.Changed = done
-change_said change.Shape = refused 1
+abbrev pub cell_said : Result Cell ShapeError → Said
+cell_said (Ok c) = cell c
+cell_said (Err e) = refused 1
 
 -- a call that hands back a bucket
 pub record Handed : Type 0 where
   pub said : Said
   pub bucket : Bucket
 
-abbrev pub taken : TakeAnswer → Handed
-taken a = record { said = take_said a.said; bucket = a.bucket }
+-- what a caller has then: the bucket, or under a refusal an empty one
+abbrev pub taken : Result Bucket ShapeError → Handed
+taken (Ok k) = record { said = done; bucket = k }
+taken (Err e) = record { said = refused 1; bucket = empty_bucket }
 
-abbrev pub changed : ChangeAnswer → Handed
-changed a = record { said = change_said a.said; bucket = a.bucket }
+-- and of a bucket k that was to be changed: the changed one, or under a refusal k
+abbrev pub changed : Bucket → Result Bucket ShapeError → Handed
+changed k (Ok n) = record { said = done; bucket = n }
+changed k (Err e) = record { said = refused 1; bucket = k }
 
 -- a call that writes both slices
 pub record Left : Type 0 where
@@ -100,7 +87,7 @@ pub record Left : Type 0 where
   pub words : List ℕ
   pub deltas : List ℕ
 
-abbrev pub left : PutSaid → List ℕ → List ℕ → Left
+abbrev pub left : Result Unit ShapeError → List ℕ → List ℕ → Left
 left s ws ds = record { said = put_said s; words = ws; deltas = ds }
 
 -- taking bucket b out

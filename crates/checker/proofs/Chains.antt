@@ -1,5 +1,5 @@
 -- The checker's reading of a chain, link by link. Assumes nothing.
-use Rattle.std.proofs.Common.{◌≡◌, ℕ, zero, suc, ◌+◌, ◌%◌, ◌<◌, true, false, sym, ap, ◌∙◌, mod-eq_of_lt, eq-eqb, ne_eqb}
+use Rattle.std.proofs.Common.{◌≡◌, ℕ, zero, suc, ◌+◌, ◌%◌, ◌<◌, eqb, true, false, sym, ap, ◌∙◌, mod-eq_of_lt, eq-eqb, ne_eqb}
 use Rattle.rules.specs.Sizes.{is_size}
 use Rattle.rules.specs.Cells.{Cells}
 use Rattle.rules.specs.Walk.{on}
@@ -13,10 +13,10 @@ module _ (S : ℕ) (cs : Cells) (h : ℕ) where
   chain_ends zero i d e = sym (eq-eqb d 0 e)
   chain_ends (suc n) i d e = rw (eq-eqb d 0 e)
 
-  -- with no link left any other delta is one too many
-  pub chain_long : (n i d : ℕ) → n ≡ 0 → (d ≡ 0 → ⊥) → false ≡ chain_test S cs h n i d
+  -- with no link left it has to end
+  pub chain_last : (n i d : ℕ) → n ≡ 0 → eqb d 0 ≡ chain_test S cs h n i d
   unfolding chain_test
-  chain_long n i d z e = rw (z, ne_eqb d 0 e)
+  chain_last n i d z = rw z
 
   -- one link on, to the cell j of the position q
   module _ (size : is_size S ≡ true) (n m at d q j x : ℕ) (one_less : n ≡ suc m) (e : d ≡ 0 → ⊥) (eq : q ≡ on at d) (ej : j ≡ q % S) (ex : x ≡ cs.hash j) where

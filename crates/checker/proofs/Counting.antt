@@ -1,5 +1,6 @@
 -- The checker's loop over the cells: those passed so far passed the test, and the live ones are counted. Assumes nothing.
 use Rattle.std.proofs.Common.{◌≡◌, ℕ, zero, suc, ◌+◌, ◌<◌, ◌≤◌, Bool, true, false, ◌&&◌, eqb, refl, add_comm, add-one, arith}
+use mir.Val.{bool_byte}
 use native.Mathlib.Decide.{ℕ_discrete}
 use Rattle.rules.specs.Cells.{Params, Cells, Counts, Lent, is_live, shape}
 use Rattle.rules.specs.Sound.{one, count}
@@ -52,6 +53,11 @@ module _ (p : Params) (cs : Cells) (value : ℕ → ℕ) (c : Counts) where
       let e' : all (cell_test p cs value) p.S ≡ true = rw ei at e in
       let s' : seen ≡ count (is_live p cs value) p.S = rw ei at es in
       rw (e', s')
+
+-- a bit counts one where it is set
+pub bit_counts : (b : Bool) → bool_byte b ≡ one b
+bit_counts true = refl
+bit_counts false = refl
 
 -- ---- the call
 

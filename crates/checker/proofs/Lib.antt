@@ -1,3 +1,4 @@
+pub mod Reach
 pub mod Chains
 pub mod Meets
 pub mod Counting

@@ -1,11 +1,11 @@
 -- The checker's test, cell by cell. proofs/Decides.antt says that it passes exactly for 01's sound tables.
-use Rattle.std.specs.Prelude.{ℕ, zero, suc, ◌+◌, ◌-◌, ◌%◌, Bool, true, false, cond, not, ◌&&◌, ◌==◌, nat_le}
+use Rattle.std.specs.Prelude.{ℕ, zero, suc, ◌+◌, ◌-◌, ◌%◌, Bool, true, false, cond, not, ◌&&◌, ◌==◌, nat_le, Result, Ok, Err}
 use Rattle.rules.specs.Sizes.{window}
 use Rattle.rules.specs.Cells.{Params, Cells, Counts, Lent, is_live, shape}
 use Rattle.rules.specs.Walk.{Stop, met, tail, broken, walk}
 use Rattle.rules.specs.Sound.{count}
-use Rattle.checker.specs.declared.CheckSaid.{CheckSaid}
-use Rattle.checker.specs.declared.CheckSaid.TheVariants as says
+use Rattle.checker.specs.declared.CheckError.{CheckError}
+use Rattle.checker.specs.declared.CheckError.TheVariants as errors
 
 -- every number below n passes
 unfoldable pub all : (ℕ → Bool) → ℕ → Bool
@@ -67,7 +67,7 @@ check_rule l =
     cond (shape l == 0) (cond (sound_test l.params l.cells l.value l.counts) sound (refused 9)) (refused 1)
 
 -- each case's number
-abbrev pub check_said : CheckSaid → Check
-check_said says.Sound = sound
-check_said says.Shape = refused 1
-check_said says.Unsound = refused 9
+abbrev pub check_said : Result Unit CheckError → Check
+check_said (Ok u) = sound
+check_said (Err errors.Shape) = refused 1
+check_said (Err errors.Unsound) = refused 9

@@ -10,179 +10,162 @@ ghost use Rattle.checker.specs.Check.{of_home_test, chain_test, met_test, empty_
 
 use cells::slices::{first_delta, hash_at, is_live, key_at, second_delta, value_at};
 use cells::walk::{Stop, walk_to};
-use cells::{Table, cell_of, passes, window_of};
+use cells::{Table, cell_of, size_of, window_of};
 use hashers::{Hasher, hash_of};
 use std::num::wrapping_add_u64;
 
-// What the checker says.
-#[derive(Clone, Copy)]
-pub enum CheckSaid {
-    Sound,
+// How a table is refused.
+#[derive(Clone, Copy, Debug, PartialEq, Eq)]
+pub enum CheckError {
     // 1
     Shape,
     // 9
     Unsound,
 }
 
-// 1 where cell i is live, else 0.
-fn live_one(words: &[u64], i: usize) -> usize
-    requires { 3 * i + 2 < length words.now }
-    ensures { result ≡ one (live_in words.now i) }
-{
-    if is_live(words, i) {
-        return 1;
-    }
-    0
+// What check 1 has passed: the slices of a table of an allowed size, and its hasher.
+#[derive(Clone, Copy)]
+struct Cells<'a> {
+    words: &'a [u64],
+    deltas: &'a [u8],
+    hasher: Hasher,
+    size: usize,
+    ghost shaped: { Shaped size words.now deltas.now },
 }
 
-// Cell j is taken, of this home, and not the home cell.
-fn of_home(words: &[u64], size: usize, home: usize, j: usize) -> bool
-    requires { (is_size size ≡ true) × (3 * j + 2 < length words.now) }
-    ensures { result ≡ of_home_test size home j (hash_in words.now j) }
-{
-    let hash = hash_at(words, j);
-    if hash == 0 {
-        return false;
+impl Cells<'_> {
+    // Cell j is taken, of this home, and not the home cell.
+    fn of_home(&self, home: usize, j: usize) -> bool
+        requires { j < self.now.size }
+        ensures { result ≡ of_home_test self.now.size home j (hash_in self.now.words.now j) }
+    {
+        let hash = hash_at(self.words, j);
+        hash != 0 && cell_of(hash, self.size) == home && j != home
     }
-    if cell_of(hash, size) == home {
-        return j != home;
-    }
-    false
-}
 
-// The chain of a home holds only taken cells of that home, never the home cell, and ends within S - 1 links.
-fn chain_ok(words: &[u64], deltas: &[u8], size: usize, home: usize) -> bool
-    requires { Shaped size words.now deltas.now × (home < size) }
-    ensures { result ≡ chain_test size (view words.now deltas.now) home (size - 1) home (slice_index deltas.now (first_at home)) }
-{
-    let mut at = home as u64;
-    let mut left = size - 1;
-    let mut delta = first_delta(deltas, home);
-    while delta != 0 {
-        if left == 0 {
+    // The chain of a home holds only taken cells of that home, never the home cell, and ends within S - 1 links.
+    #[tactic(auto, using(crate::proofs::Reach::delta_there))]
+    fn chain_ok(&self, home: usize) -> bool
+        requires { home < self.now.size }
+        ensures { result ≡ chain_test self.now.size (view self.now.words.now self.now.deltas.now) home (self.now.size - 1) home (slice_index self.now.deltas.now (first_at home)) }
+    {
+        let mut at = home as u64;
+        let mut delta = first_delta(self.deltas, home);
+        for _link in 1..self.size {
+            if delta == 0 {
+                return true;
+            }
+            at = wrapping_add_u64(at, delta);
+            let j = cell_of(at, self.size);
+            if !self.of_home(home, j) {
+                return false;
+            }
+            delta = second_delta(self.deltas, j);
+        }
+        delta == 0
+    }
+
+    // The walk for cell i's own hash and key meets the key at cell i.
+    fn met_itself(&self, i: usize) -> bool
+        requires { i < self.now.size }
+        ensures { result ≡ met_test self.now.size (view self.now.words.now self.now.deltas.now) i }
+    {
+        let hash = hash_at(self.words, i);
+        let key = key_at(self.words, i);
+        match walk_to(self.words, self.deltas, self.size, hash, key).stop {
+            Stop::Met(at) => cell_of(at, self.size) == i,
+            Stop::Tail(_) => false,
+            Stop::Broken => false,
+        }
+    }
+
+    // What is asked of cell i where it is not taken.
+    #[tactic(auto, using(crate::proofs::Reach::delta_there), unfolding(crate::specs::Check::empty_test))]
+    fn empty_ok(&self, i: usize) -> bool
+        requires { i < self.now.size }
+        ensures { result ≡ empty_test null (view self.now.words.now self.now.deltas.now) (value_in self.now.words.now) i }
+    {
+        key_at(self.words, i) == 0
+            && value_at(self.words, i) == Table::NULL
+            && first_delta(self.deltas, i) == 0
+            && second_delta(self.deltas, i) == 0
+    }
+
+    // A cell at its own home has second delta 0.
+    #[tactic(auto, using(crate::proofs::Reach::delta_there), unfolding(crate::specs::Check::home_test))]
+    fn home_ok(&self, i: usize, hash: u64) -> bool
+        requires { i < self.now.size }
+        ensures { result ≡ home_test self.now.size i hash (slice_index self.now.deltas.now (second_at i)) }
+    {
+        cell_of(hash, self.size) != i || second_delta(self.deltas, i) == 0
+    }
+
+    // What is asked of cell i where it is taken.
+    #[tactic(auto, unfolding(crate::specs::Check::taken_test))]
+    fn taken_ok(&self, i: usize) -> bool
+        requires { i < self.now.size }
+        ensures { result ≡ taken_test (params_of self.now.size self.now.hasher) (view self.now.words.now self.now.deltas.now) i }
+    {
+        let hash = hash_at(self.words, i);
+        hash == hash_of(self.hasher, key_at(self.words, i))
+            && self.home_ok(i, hash)
+            && self.met_itself(i)
+    }
+
+    // What is asked of cell i, and of the chain whose home it is.
+    #[tactic(auto, using(crate::proofs::Reach::delta_there), unfolding(crate::specs::Check::cell_test))]
+    fn cell_ok(&self, i: usize) -> bool
+        requires { i < self.now.size }
+        ensures { result ≡ cell_test (params_of self.now.size self.now.hasher) (view self.now.words.now self.now.deltas.now) (value_in self.now.words.now) i }
+    {
+        let most = window_of(self.size) as u64;
+        if most < first_delta(self.deltas, i) {
             return false;
         }
-        at = wrapping_add_u64(at, delta);
-        left -= 1;
-        let j = cell_of(at, size);
-        if !of_home(words, size, home, j) {
+        if most < second_delta(self.deltas, i) {
             return false;
         }
-        delta = second_delta(deltas, j);
-    }
-    true
-}
-
-// The walk for cell i's own hash and key meets the key at cell i.
-fn met_itself(words: &[u64], deltas: &[u8], size: usize, i: usize) -> bool
-    requires { Shaped size words.now deltas.now × (i < size) }
-    ensures { result ≡ met_test size (view words.now deltas.now) i }
-{
-    let hash = hash_at(words, i);
-    let key = key_at(words, i);
-    let stop = walk_to(words, deltas, size, hash, key).stop;
-    match stop {
-        Stop::Met(at) => cell_of(at, size) == i,
-        Stop::Tail(_) => false,
-        Stop::Broken => false,
-    }
-}
-
-// What is asked of cell i where it is not taken.
-#[tactic(auto, unfolding(crate::specs::Check::empty_test))]
-fn empty_ok(words: &[u64], deltas: &[u8], size: usize, i: usize) -> bool
-    requires { Shaped size words.now deltas.now × (i < size) }
-    ensures { result ≡ empty_test null (view words.now deltas.now) (value_in words.now) i }
-{
-    if key_at(words, i) != 0 {
-        return false;
-    }
-    if value_at(words, i) != Table::NULL {
-        return false;
-    }
-    if first_delta(deltas, i) != 0 {
-        return false;
-    }
-    second_delta(deltas, i) == 0
-}
-
-// A cell at its own home has second delta 0.
-#[tactic(auto, using(cells::proofs::Shapes::cell_lt), unfolding(crate::specs::Check::home_test))]
-fn home_ok(deltas: &[u8], size: usize, i: usize, hash: u64) -> bool
-    requires { (is_size size ≡ true) × (second_at i < length deltas.now) }
-    ensures { result ≡ home_test size i hash (slice_index deltas.now (second_at i)) }
-{
-    if cell_of(hash, size) == i {
-        return second_delta(deltas, i) == 0;
-    }
-    true
-}
-
-// What is asked of cell i where it is taken.
-fn taken_ok(words: &[u64], deltas: &[u8], hasher: Hasher, size: usize, i: usize) -> bool
-    requires { Shaped size words.now deltas.now × (i < size) }
-    ensures { result ≡ taken_test (params_of size hasher) (view words.now deltas.now) i }
-{
-    let hash = hash_at(words, i);
-    if hash != hash_of(hasher, key_at(words, i)) {
-        return false;
-    }
-    if !home_ok(deltas, size, i, hash) {
-        return false;
-    }
-    met_itself(words, deltas, size, i)
-}
-
-// What is asked of cell i, and of the chain whose home it is.
-fn cell_ok(words: &[u64], deltas: &[u8], hasher: Hasher, size: usize, i: usize) -> bool
-    requires { Shaped size words.now deltas.now × (i < size) }
-    ensures { result ≡ cell_test (params_of size hasher) (view words.now deltas.now) (value_in words.now) i }
-{
-    let most = window_of(size) as u64;
-    if most < first_delta(deltas, i) {
-        return false;
-    }
-    if most < second_delta(deltas, i) {
-        return false;
-    }
-    if !chain_ok(words, deltas, size, i) {
-        return false;
-    }
-    if hash_at(words, i) == 0 {
-        return empty_ok(words, deltas, size, i);
-    }
-    taken_ok(words, deltas, hasher, size, i)
-}
-
-// Every cell passes, and live counts the live cells.
-fn is_sound(words: &[u64], deltas: &[u8], hasher: Hasher, size: usize, live: usize) -> bool
-    requires { Shaped size words.now deltas.now }
-    ensures { result ≡ sound_test (params_of size hasher) (view words.now deltas.now) (value_in words.now) (counts_of live) }
-{
-    let mut seen: usize = 0;
-    let mut i: usize = 0;
-    while i < size {
-        if !cell_ok(words, deltas, hasher, size, i) {
+        if !self.chain_ok(i) {
             return false;
         }
-        seen += live_one(words, i);
-        i += 1;
+        if hash_at(self.words, i) == 0 {
+            self.empty_ok(i)
+        } else {
+            self.taken_ok(i)
+        }
     }
-    live == seen
+
+    // Every cell passes, and live counts the live cells.
+    fn is_sound(&self, live: usize) -> bool
+        ensures { result ≡ sound_test (params_of self.now.size self.now.hasher) (view self.now.words.now self.now.deltas.now) (value_in self.now.words.now) (counts_of live) }
+    {
+        let mut seen: usize = 0;
+        for i in 0..self.size {
+            if !self.cell_ok(i) {
+                return false;
+            }
+            seen += usize::from(is_live(self.words, i));
+        }
+        live == seen
+    }
 }
 
 // Whether a table is sound, by the eight rules of document 01. Refusals: 1, then 9 where it is not.
-pub fn check(words: &[u64], deltas: &[u8], table: Table) -> CheckSaid
+pub fn check(words: &[u64], deltas: &[u8], table: Table) -> Result<(), CheckError>
     ensures { check_said result ≡ check_rule (lent words.now deltas.now table) }
 {
-    let hasher = table.hasher;
-    let live = table.live;
-    if passes(words, deltas, live) {
-        let size = deltas.len() / 2;
-        if is_sound(words, deltas, hasher, size, live) {
-            return CheckSaid::Sound;
-        }
-        return CheckSaid::Unsound;
+    let Some(size) = size_of(words, deltas, table.live) else {
+        return Err(CheckError::Shape);
+    };
+    let cells = Cells {
+        words,
+        deltas,
+        hasher: table.hasher,
+        size,
+    };
+    if cells.is_sound(table.live) {
+        Ok(())
+    } else {
+        Err(CheckError::Unsound)
     }
-    CheckSaid::Shape
 }

@@ -3,40 +3,29 @@ use mathlib.Core.List.{List}
 use mathlib.Core.Path.{◌≡◌, refl, ap}
 use Prim.Native.Nat.{ℕ}
 use Rattle.buckets.specs.Buckets as says
-use Rattle.buckets.specs.Buckets.{Said, done, refused, take_said, taken, taking, put_said, Left, left, putting, cell_said, reading, change_said, Handed, changed, changing}
-use Rattle.buckets.specs.declared.Cell.{Cell}
+use Rattle.std.specs.Prelude.{Result, Ok, Err}
+use Rattle.cells.specs.declared.Cell.{Cell}
+use Rattle.cells.specs.declared.ShapeError.{ShapeError}
+use Rattle.buckets.specs.Buckets.{Said, done, refused, taken, taking, put_said, Left, left, putting, cell_said, reading, Handed, changed, changing}
 use Rattle.buckets.specs.declared.Bucket.{Bucket}
-use Rattle.buckets.specs.declared.TakeAnswer.{TakeAnswer}
-use Rattle.buckets.specs.declared.TakeSaid.{TakeSaid}
-use Rattle.buckets.specs.declared.TakeSaid.TheVariants as take
-use Rattle.buckets.specs.declared.PutSaid.{PutSaid}
-use Rattle.buckets.specs.declared.PutSaid.TheVariants as put
-use Rattle.buckets.specs.declared.CellSaid.{CellSaid}
-use Rattle.buckets.specs.declared.CellSaid.TheVariants as read
-use Rattle.buckets.specs.declared.ChangeAnswer.{ChangeAnswer}
-use Rattle.buckets.specs.declared.ChangeSaid.{ChangeSaid}
-use Rattle.buckets.specs.declared.ChangeSaid.TheVariants as change
 use Rattle.outcomes.proofs.One.{both, one}
 
 -- ---- taking
 
--- the answer that is said so
-abbrev take_unsaid : Said → TakeSaid
-take_unsaid done = take.Taken
-take_unsaid (says.cell c) = take.Shape
-take_unsaid (refused n) = take.Shape
+-- the answer that is said so, and carries this
+abbrev answer : {A : Type 0} → Said → A → Result A ShapeError
+answer done a = Ok a
+answer (says.cell c) a = Ok a
+answer (refused n) a = Err (record { })
 
-take_back : (s : TakeSaid) → take_unsaid (take_said s) ≡ s
-take_back take.Taken = refl
-take_back take.Shape = refl
+abbrev untaken : Handed → Result Bucket ShapeError
+untaken h = answer h.said h.bucket
 
-abbrev untaken : Handed → TakeAnswer
-untaken h = record { said = take_unsaid h.said; bucket = h.bucket }
+taken_back : (r : Result Bucket ShapeError) → untaken (taken r) ≡ r
+taken_back (Ok k) = refl
+taken_back (Err e) = refl
 
-taken_back : (a : TakeAnswer) → untaken (taken a) ≡ a
-taken_back a = λ i. record { said = take_back a.said i; bucket = a.bucket }
-
-pub take_bucket_one_outcome : (words deltas : List ℕ) (b : ℕ) (r₁ r₂ : TakeAnswer)
+pub take_bucket_one_outcome : (words deltas : List ℕ) (b : ℕ) (r₁ r₂ : Result Bucket ShapeError)
     → taken r₁ ≡ taking words deltas b
     → taken r₂ ≡ taking words deltas b
     → r₁ ≡ r₂
@@ -44,16 +33,14 @@ take_bucket_one_outcome words deltas b r₁ r₂ e₁ e₂ = one taken untaken t
 
 -- ---- putting
 
-abbrev put_unsaid : Said → PutSaid
-put_unsaid done = put.Put
-put_unsaid (says.cell c) = put.Shape
-put_unsaid (refused n) = put.Shape
+abbrev put_unsaid : Said → Result Unit ShapeError
+put_unsaid s = answer s tt
 
-put_back : (s : PutSaid) → put_unsaid (put_said s) ≡ s
-put_back put.Put = refl
-put_back put.Shape = refl
+put_back : (r : Result Unit ShapeError) → put_unsaid (put_said r) ≡ r
+put_back (Ok u) = refl
+put_back (Err e) = refl
 
-pub put_bucket_one_outcome : (words deltas : List ℕ) (b : ℕ) (bucket : Bucket) (r₁ r₂ : PutSaid) (words₁ deltas₁ words₂ deltas₂ : List ℕ)
+pub put_bucket_one_outcome : (words deltas : List ℕ) (b : ℕ) (bucket : Bucket) (r₁ r₂ : Result Unit ShapeError) (words₁ deltas₁ words₂ deltas₂ : List ℕ)
     → left r₁ words₁ deltas₁ ≡ putting words deltas b bucket
     → left r₂ words₂ deltas₂ ≡ putting words deltas b bucket
     → (r₁ ≡ r₂) × (words₁ ≡ words₂) × (deltas₁ ≡ deltas₂)
@@ -63,37 +50,26 @@ put_bucket_one_outcome words deltas b bucket r₁ r₂ words₁ deltas₁ words�
 
 -- ---- reading a cell
 
-abbrev cell_unsaid : Said → CellSaid
-cell_unsaid done = read.Shape
-cell_unsaid (says.cell c) = read.Cell c
-cell_unsaid (refused n) = read.Shape
+abbrev cell_unsaid : Said → Result Cell ShapeError
+cell_unsaid done = Err (record { })
+cell_unsaid (says.cell c) = Ok c
+cell_unsaid (refused n) = Err (record { })
 
-cell_back : (s : CellSaid) → cell_unsaid (cell_said s) ≡ s
-cell_back (read.Cell c) = refl
-cell_back read.Shape = refl
+cell_back : (r : Result Cell ShapeError) → cell_unsaid (cell_said r) ≡ r
+cell_back (Ok c) = refl
+cell_back (Err e) = refl
 
-pub bucket_cell_one_outcome : (self : Bucket) (j : ℕ) (r₁ r₂ : CellSaid) → cell_said r₁ ≡ reading self j → cell_said r₂ ≡ reading self j → r₁ ≡ r₂
+pub bucket_cell_one_outcome : (self : Bucket) (j : ℕ) (r₁ r₂ : Result Cell ShapeError) → cell_said r₁ ≡ reading self j → cell_said r₂ ≡ reading self j → r₁ ≡ r₂
 bucket_cell_one_outcome self j r₁ r₂ e₁ e₂ = one cell_said cell_unsaid cell_back r₁ r₂ (both e₁ e₂)
 
 -- ---- changing a cell
 
-abbrev change_unsaid : Said → ChangeSaid
-change_unsaid done = change.Changed
-change_unsaid (says.cell c) = change.Shape
-change_unsaid (refused n) = change.Shape
+changed_back : (k : Bucket) (r : Result Bucket ShapeError) → untaken (changed k r) ≡ r
+changed_back k (Ok n) = refl
+changed_back k (Err e) = refl
 
-change_back : (s : ChangeSaid) → change_unsaid (change_said s) ≡ s
-change_back change.Changed = refl
-change_back change.Shape = refl
-
-abbrev unchanged : Handed → ChangeAnswer
-unchanged h = record { said = change_unsaid h.said; bucket = h.bucket }
-
-changed_back : (a : ChangeAnswer) → unchanged (changed a) ≡ a
-changed_back a = λ i. record { said = change_back a.said i; bucket = a.bucket }
-
-pub bucket_with_cell_one_outcome : (self : Bucket) (j : ℕ) (cell : Cell) (r₁ r₂ : ChangeAnswer)
-    → changed r₁ ≡ changing self j cell
-    → changed r₂ ≡ changing self j cell
+pub bucket_with_cell_one_outcome : (self : Bucket) (j : ℕ) (cell : Cell) (r₁ r₂ : Result Bucket ShapeError)
+    → changed self r₁ ≡ changing self j cell
+    → changed self r₂ ≡ changing self j cell
     → r₁ ≡ r₂
-bucket_with_cell_one_outcome self j cell r₁ r₂ e₁ e₂ = one changed unchanged changed_back r₁ r₂ (both e₁ e₂)
+bucket_with_cell_one_outcome self j cell r₁ r₂ e₁ e₂ = one (changed self) untaken (changed_back self) r₁ r₂ (both e₁ e₂)
