@@ -1,7 +1,7 @@
 -- The front of the half in use, as the code cuts it. Assumes nothing.
 use mathlib.Core.Bool.{true, false, ◌&&◌}
 use mathlib.Core.List.{List, []}
-use mathlib.Core.Path.{◌≡◌, sym, subst}
+use mathlib.Core.Path.{◌≡◌, refl, sym, ap, ◌∙◌, subst}
 use Prim.Native.Nat.{ℕ, ◌*◌, ◌^◌, ◌≤◌}
 use native.Mathlib.Nat.{mul-le-mul_left}
 use lib.ListN.{length, take}
@@ -9,6 +9,7 @@ use Rattle.rules.specs.Sizes.{greatest_log}
 use Rattle.steps.proofs.Sizes.{size_greatest}
 use Rattle.parts.specs.Halves.{half_of, of_half, are_pair, record_fits, part}
 use Rattle.parts.specs.declared.Half.{Half}
+use Rattle.parts.specs.declared.Half.TheVariants.{Lower, Upper}
 use Rattle.parts.specs.declared.Growing.{Growing}
 use Rattle.parts.proofs.Checks.{both, pair_holds, record_holds}
 
@@ -31,3 +32,14 @@ module _ {A : Type 0} (each C : ℕ) (l u : List A) (g : Growing) where
   pub part_none : are_pair each C (length l) (length u) && record_fits C g ≡ false → [] ≡ part each C l u g
   unfolding part
   part_none e = rw e
+
+  -- the half in use is as long as the part
+  pub part_within : are_pair each C (length l) (length u) && record_fits C g ≡ true → (x : List A) → x ≡ of_half (half_of g.half) l u → each * g.size ≤ length x
+  part_within e x ex = rw ex (go g.half)
+    where
+      go : (h : Half) → each * g.size ≤ length (of_half (half_of h) l u)
+      go Lower = (front_within each C (length l) (length u) g e).0
+      go Upper = (front_within each C (length l) (length u) g e).1
+
+  pub part_cut : are_pair each C (length l) (length u) && record_fits C g ≡ true → (x : List A) → x ≡ of_half (half_of g.half) l u → take (each * g.size) x ≡ part each C l u g
+  part_cut e x ex = ap (take (each * g.size)) ex ∙ part_at e g.half refl

@@ -1,10 +1,20 @@
 // Internal: check 1 of a growing table. Nothing here is a public call.
 ghost use Rattle.std.specs.Prelude.{◌&&◌, ◌≡◌, ◌/◌, ◌≤◌};
 ghost use Rattle.cells.specs.Layout.{size_in};
-ghost use Rattle.parts.specs.Halves.{are_pair, are_halves, size_fits, record_fits};
+ghost use Rattle.parts.specs.Halves.{half_of, of_half, are_pair, are_halves, size_fits, record_fits};
 
-use crate::Growing;
+use crate::{Growing, Half};
 use cells::is_size;
+
+// Of what the lower half has and what the upper has, that of this half.
+pub fn of_half<'a, T>(half: Half, lower: &'a [T], upper: &'a [T]) -> &'a [T]
+    ensures { result.now ≡ of_half (half_of half) lower.now upper.now }
+{
+    match half {
+        Half::Lower => lower,
+        Half::Upper => upper,
+    }
+}
 
 // Two lengths are those of so many cells, an allowed number of them, with `each` numbers to a cell.
 #[tactic(auto, using(crate::proofs::Checks::product_most), unfolding(crate::specs::Halves::are_pair))]

@@ -4,8 +4,8 @@
 ghost use Rattle.std.specs.Prelude.{◌≡◌, ◌/◌, ◌≤◌, length};
 ghost use Rattle.parts.specs.Halves.{part, used_words, used_deltas};
 
-use crate::internal::pair_passes;
-use crate::{Growing, Half};
+use crate::Growing;
+use crate::internal::{of_half, pair_passes};
 
 // The front of the half in use, with `each` numbers to a cell. It sees one kind of slice alone.
 fn part<'a, T>(each: usize, lower: &'a [T], upper: &'a [T], growing: Growing) -> &'a [T]
@@ -16,10 +16,7 @@ fn part<'a, T>(each: usize, lower: &'a [T], upper: &'a [T], growing: Growing) ->
         return &lower[..0];
     }
     let front = each * growing.size;
-    match growing.half {
-        Half::Lower => &lower[..front],
-        Half::Upper => &upper[..front],
-    }
+    &of_half(growing.half, lower, upper)[..front]
 }
 
 // The words of the half in use, exactly its first 3S. It sees no deltas.
