@@ -55,7 +55,7 @@ module _ (lw ld uw ud : List ℕ) (g : Growing) (k : ℕ) where
 
   module _ (e : are_halves lw ld uw ud && record_fits (size_in ld) g ≡ true) (r : RemoveAnswer) where
     -- a remove in the lower half
-    pub removed_lower : (x : GrowingRemoveAnswer) → x ≡ removed_from r g.size Lower → g.half ≡ Lower → (lw' : List ℕ)
+    pub removed_lower : (x : GrowingRemoveAnswer) → x ≡ removed_from r g.size g.half → g.half ≡ Lower → (lw' : List ℕ)
         → remove_left r lw' ld ≡ left_by (remove (lent (take (3 * g.size) lw) (take (2 * g.size) ld) g.table) k) g.table lw ld
         → remove_halves_left x lw' ld uw ud ≡ remove_rule lw ld uw ud g k
     unfolding by_half done_by
@@ -67,9 +67,9 @@ module _ (lw ld uw ud : List ℕ) (g : Growing) (k : ℕ) where
           growing = record { table = record { hasher = (p i).hasher; live = (p i).done.counts.live }; size = g.size; half = Lower };
           left = four (p i).done.words (p i).done.deltas uw ud;
         } in
-        ap (λ (y : GrowingRemoveAnswer). remove_halves_left y lw' ld uw ud) ex ∙ q ∙ by_half_is Lower eh (remove (in_use (lent_halves lw ld uw ud g)) k)
+        ap (λ (y : GrowingRemoveAnswer). remove_halves_left y lw' ld uw ud) (ex ∙ ap (removed_from r g.size) eh) ∙ q ∙ by_half_is Lower eh (remove (in_use (lent_halves lw ld uw ud g)) k)
 
-    pub removed_upper : (x : GrowingRemoveAnswer) → x ≡ removed_from r g.size Upper → g.half ≡ Upper → (uw' : List ℕ)
+    pub removed_upper : (x : GrowingRemoveAnswer) → x ≡ removed_from r g.size g.half → g.half ≡ Upper → (uw' : List ℕ)
         → remove_left r uw' ud ≡ left_by (remove (lent (take (3 * g.size) uw) (take (2 * g.size) ud) g.table) k) g.table uw ud
         → remove_halves_left x lw ld uw' ud ≡ remove_rule lw ld uw ud g k
     unfolding by_half done_by
@@ -81,7 +81,7 @@ module _ (lw ld uw ud : List ℕ) (g : Growing) (k : ℕ) where
           growing = record { table = record { hasher = (p i).hasher; live = (p i).done.counts.live }; size = g.size; half = Upper };
           left = four lw ld (p i).done.words (p i).done.deltas;
         } in
-        ap (λ (y : GrowingRemoveAnswer). remove_halves_left y lw ld uw' ud) ex ∙ q ∙ by_half_is Upper eh (remove (in_use (lent_halves lw ld uw ud g)) k)
+        ap (λ (y : GrowingRemoveAnswer). remove_halves_left y lw ld uw' ud) (ex ∙ ap (removed_from r g.size) eh) ∙ q ∙ by_half_is Upper eh (remove (in_use (lent_halves lw ld uw ud g)) k)
 
   -- 1 leaves all
   pub remove_kept : are_halves lw ld uw ud && record_fits (size_in ld) g ≡ false → record { said = refused 1 []; looked = 0; growing = g; left = four lw ld uw ud } ≡ remove_rule lw ld uw ud g k

@@ -1,19 +1,18 @@
 -- What the calls on two halves say and leave: each case by 01's number and values.
-use Rattle.std.specs.Prelude.{cond, ◌&&◌, List, ℕ}
+use Rattle.std.specs.Prelude.{cond, ◌&&◌, List, ℕ, Result, Ok, Err}
 use Rattle.hashers.specs.declared.Hasher.{Hasher}
 use Rattle.rules.specs.Growing as rule
 use Rattle.rules.specs.Growing.{lower, upper, in_use}
 use Rattle.rules.specs.Answers.{Said, Outcome}
 use Rattle.rules.specs.Calls as calls
 use Rattle.cells.specs.Layout.{size_in, fresh_words, fresh_deltas, words_after, deltas_after}
+use Rattle.cells.specs.declared.ShapeError.{ShapeError}
 use Rattle.hashmap.specs.Answers.{remove_said}
 use Rattle.hashmap.specs.declared.RemoveAnswer.{RemoveAnswer}
 use Rattle.parts.specs.Halves.{half_of, are_halves, size_fits, lent_halves, with_table}
 use Rattle.parts.specs.declared.Half.{Half}
 use Rattle.parts.specs.declared.Half.TheVariants.{Lower}
 use Rattle.parts.specs.declared.Growing.{Growing}
-use Rattle.halves.specs.declared.ClearHalvesSaid.{ClearHalvesSaid}
-use Rattle.halves.specs.declared.ClearHalvesSaid.TheVariants as clears
 use Rattle.halves.specs.declared.GrowingRemoveAnswer.{GrowingRemoveAnswer}
 
 -- the four slices
@@ -49,11 +48,11 @@ clear_halves_rule lw ld uw ud size hasher =
     })
     (record { said = refuses 1; left = four lw ld uw ud })
 
-abbrev pub clear_halves_said : ClearHalvesSaid → Clear
-clear_halves_said (clears.Cleared g) = cleared g
-clear_halves_said clears.Shape = refuses 1
+abbrev pub clear_halves_said : Result Growing ShapeError → Clear
+clear_halves_said (Ok g) = cleared g
+clear_halves_said (Err e) = refuses 1
 
-abbrev pub clear_halves_left : ClearHalvesSaid → (lw ld uw ud : List ℕ) → HalvesCleared
+abbrev pub clear_halves_left : Result Growing ShapeError → (lw ld uw ud : List ℕ) → HalvesCleared
 clear_halves_left r lw ld uw ud = record { said = clear_halves_said r; left = four lw ld uw ud }
 
 -- ---- remove: the change is made in the half in use, and the other half stays

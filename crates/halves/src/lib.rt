@@ -10,19 +10,13 @@ ghost use Rattle.hashmap.specs.Answers.{find_answer, remove_left};
 ghost use Rattle.parts.specs.Halves.{lent_halves};
 ghost use Rattle.halves.specs.Answers.{clear_halves_left, clear_halves_rule, remove_halves_left, remove_rule, removed_from};
 
-use cells::Table;
+use cells::{ShapeError, Table};
 use hashers::Hasher;
-pub use hashmap::{FindAnswer, FindSaid, RemoveSaid};
+pub use hashmap::{FindAnswer, LookupError};
 use moving::clear_both;
-use parts::internal::{are_halves, passes, size_fits};
+use parts::internal::{are_halves, of_half, passes, size_fits};
+use parts::with_table;
 pub use parts::{Growing, Half};
-
-#[derive(Clone, Copy)]
-pub enum ClearHalvesSaid {
-    Cleared(Growing),
-    // 1
-    Shape,
-}
 
 // Clears both halves whole and makes a fresh growing table of this size, in the lower half. Refusal: 1.
 pub fn clear_halves(
@@ -32,22 +26,23 @@ pub fn clear_halves(
     upper_deltas: &mut [u8],
     size: usize,
     hasher: Hasher,
-) -> ClearHalvesSaid
+) -> Result<Growing, ShapeError>
     ensures { clear_halves_left result lower_words.new lower_deltas.new upper_words.new upper_deltas.new ≡ clear_halves_rule lower_words.old lower_deltas.old upper_words.old upper_deltas.old size hasher }
 {
-    if are_halves(lower_words, lower_deltas, upper_words, upper_deltas) {
-        let cells = lower_deltas.len() / 2;
-        if size_fits(cells, size) {
-            clear_both(lower_words, lower_deltas, cells);
-            clear_both(upper_words, upper_deltas, cells);
-            return ClearHalvesSaid::Cleared(Growing {
-                table: Table { hasher, live: 0 },
-                size,
-                half: Half::Lower,
-            });
-        }
+    if !are_halves(lower_words, lower_deltas, upper_words, upper_deltas) {
+        return Err(ShapeError);
     }
-    ClearHalvesSaid::Shape
+    let cells = lower_deltas.len() / 2;
+    if !size_fits(cells, size) {
+        return Err(ShapeError);
+    }
+    clear_both(lower_words, lower_deltas, cells);
+    clear_both(upper_words, upper_deltas, cells);
+    Ok(Growing {
+        table: Table { hasher, live: 0 },
+        size,
+        half: Half::Lower,
+    })
 }
 
 // Looks a key up in the table of so many cells in the front of two slices.
@@ -55,9 +50,7 @@ fn find_front(words: &[u64], deltas: &[u8], size: usize, table: Table, key: u64)
     requires { Shaped size words.now deltas.now }
     ensures { find_answer result ≡ find·rule (lent (take (3 * size) words.now) (take (2 * size) deltas.now) table) key }
 {
-    let n = 3 * size;
-    let m = 2 * size;
-    hashmap::find(&words[..n], &deltas[..m], table, key)
+    hashmap::find(&words[..3 * size], &deltas[..2 * size], table, key)
 }
 
 // Looks a key up in the table in use. Refusals: 1, 2, then 5 from the walk.
@@ -71,34 +64,26 @@ pub fn find(
 ) -> FindAnswer
     ensures { find_answer result ≡ find·rule (in_use (lent_halves lower_words.now lower_deltas.now upper_words.now upper_deltas.now growing)) key }
 {
-    let table = growing.table;
-    let size = growing.size;
-    let half = growing.half;
-    if passes(
+    if !passes(
         lower_words,
         lower_deltas,
         upper_words,
         upper_deltas,
         growing,
     ) {
-        match half {
-            Half::Lower => {
-                return find_front(lower_words, lower_deltas, size, table, key);
-            }
-            Half::Upper => {
-                return find_front(upper_words, upper_deltas, size, table, key);
-            }
-        }
+        return FindAnswer {
+            said: Err(LookupError::Shape),
+            looked: 0,
+        };
     }
-    FindAnswer {
-        said: FindSaid::Shape,
-        looked: 0,
-    }
+    let words = of_half(growing.half, lower_words, upper_words);
+    let deltas = of_half(growing.half, lower_deltas, upper_deltas);
+    find_front(words, deltas, growing.size, growing.table, key)
 }
 
 #[derive(Clone, Copy)]
 pub struct GrowingRemoveAnswer {
-    pub said: RemoveSaid,
+    pub said: Result<Option<u64>, LookupError>,
     pub looked: usize,
     pub growing: Growing,
 }
@@ -114,27 +99,17 @@ fn remove_front(
     requires { Shaped size words.old deltas.now }
     ensures { remove_left result words.new deltas.now ≡ left_by (remove·rule (lent (take (3 * size) words.old) (take (2 * size) deltas.now) table) key) table words.old deltas.now }
 {
-    let n = 3 * size;
-    let m = 2 * size;
-    hashmap::remove(&mut words[..n], &deltas[..m], table, key)
+    hashmap::remove(&mut words[..3 * size], &deltas[..2 * size], table, key)
 }
 
 // The answer of a remove from the table in use, with the growing record.
-fn removed_from(done: hashmap::RemoveAnswer, size: usize, half: Half) -> GrowingRemoveAnswer
-    ensures { result ≡ removed_from done size half }
+fn removed_from(done: hashmap::RemoveAnswer, growing: Growing) -> GrowingRemoveAnswer
+    ensures { result ≡ removed_from done growing.size growing.half }
 {
-    let said = done.said;
-    let table = done.table;
-    let hasher = table.hasher;
-    let live = table.live;
     GrowingRemoveAnswer {
-        said,
+        said: done.said,
         looked: done.looked,
-        growing: Growing {
-            table: Table { hasher, live },
-            size,
-            half,
-        },
+        growing: with_table(growing, done.table),
     }
 }
 
@@ -149,30 +124,29 @@ pub fn remove(
 ) -> GrowingRemoveAnswer
     ensures { remove_halves_left result lower_words.new lower_deltas.now upper_words.new upper_deltas.now ≡ remove_rule lower_words.old lower_deltas.now upper_words.old upper_deltas.now growing key }
 {
-    let table = growing.table;
-    let size = growing.size;
-    let half = growing.half;
-    if passes(
+    if !passes(
         lower_words,
         lower_deltas,
         upper_words,
         upper_deltas,
         growing,
     ) {
-        match half {
-            Half::Lower => {
-                let done = remove_front(lower_words, lower_deltas, size, table, key);
-                return removed_from(done, size, Half::Lower);
-            }
-            Half::Upper => {
-                let done = remove_front(upper_words, upper_deltas, size, table, key);
-                return removed_from(done, size, Half::Upper);
-            }
-        }
+        return GrowingRemoveAnswer {
+            said: Err(LookupError::Shape),
+            looked: 0,
+            growing,
+        };
     }
-    GrowingRemoveAnswer {
-        said: RemoveSaid::Shape,
-        looked: 0,
-        growing: Growing { table, size, half },
+    let table = growing.table;
+    let size = growing.size;
+    match growing.half {
+        Half::Lower => {
+            let done = remove_front(lower_words, lower_deltas, size, table, key);
+            removed_from(done, growing)
+        }
+        Half::Upper => {
+            let done = remove_front(upper_words, upper_deltas, size, table, key);
+            removed_from(done, growing)
+        }
     }
 }

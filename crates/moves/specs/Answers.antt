@@ -1,23 +1,33 @@
 -- Each case of a move's answer, by 01's number and values; and what the move left in its destination.
-use Rattle.std.specs.Prelude.{List, [], ◌∷◌, ℕ}
+use Rattle.std.specs.Prelude.{List, [], ◌∷◌, ℕ, Result, Ok, Err}
 use Rattle.hashers.specs.declared.Hasher.{Hasher}
 use Rattle.rules.specs.Moves.{Ended, all, stop, MoveOutcome, move}
 use Rattle.cells.specs.Layout.{lent, is_shaped, size_in}
 use Rattle.cells.specs.declared.Table.{Table}
+use Rattle.cells.specs.declared.insert.WalkError.{WalkError}
+use Rattle.cells.specs.declared.insert.WalkError.TheVariants as walks
 use Rattle.moving.specs.Slices.{clear_held, words_become, deltas_become}
-use Rattle.moves.specs.declared.MoveSaid.{MoveSaid}
-use Rattle.moves.specs.declared.MoveSaid.TheVariants.{Moved, Shape, Full, Broken}
+use Rattle.moves.specs.declared.MoveError.{MoveError}
+use Rattle.moves.specs.declared.MoveError.TheVariants as errors
 
 -- the record of the new table, or a refusal by its number, with what it carries
 pub data Move : Type 0 where
   moved : Table → Move
   refuses : ℕ → List ℕ → Move
 
-abbrev pub move_said : MoveSaid → Move
-move_said (Moved t) = moved t
-move_said Shape = refuses 1 []
-move_said (Full at) = refuses 4 (at.position ∷ [])
-move_said Broken = refuses 5 []
+abbrev pub move_failed : MoveError → Move
+move_failed errors.Shape = refuses 1 []
+move_failed (errors.Full at) = refuses 4 (at.position ∷ [])
+move_failed errors.Broken = refuses 5 []
+
+abbrev pub move_said : Result Table MoveError → Move
+move_said (Ok t) = moved t
+move_said (Err e) = move_failed e
+
+-- how an insert's walk is refused, as a move
+abbrev pub walk_error : WalkError → MoveError
+walk_error (walks.Full at) = errors.Full at
+walk_error walks.Broken = errors.Broken
 
 -- the new record has the hasher of the source's
 abbrev pub end_said : Hasher → Ended → Move
@@ -29,7 +39,7 @@ pub record MoveLeft : Type 0 where
   pub words : List ℕ
   pub deltas : List ℕ
 
-abbrev pub move_left : MoveSaid → List ℕ → List ℕ → MoveLeft
+abbrev pub move_left : Result Table MoveError → List ℕ → List ℕ → MoveLeft
 move_left r ws ds = record { said = move_said r; words = ws; deltas = ds }
 
 -- what an outcome of the rule says, and makes of a destination of C cells

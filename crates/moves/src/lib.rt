@@ -7,19 +7,17 @@ ghost use Rattle.rules.specs.Moves.{move_all, move_end};
 ghost use Rattle.cells.specs.Layout.{null, counts_of};
 ghost use Rattle.moving.specs.Slices.{held_in, clear_held};
 ghost use Rattle.moving.specs.Ends.{end_of, into_by};
-ghost use Rattle.moves.specs.Answers.{move_said, end_said, move_left, move_rule};
+ghost use Rattle.moves.specs.Answers.{walk_error, move_left, move_rule};
 
 pub use cells::Table;
 pub use cells::insert::FullAt;
-use cells::{is_shaped, passes};
-use hashers::Hasher;
-use moving::{MoveEnd, clear_both, move_into};
+use cells::insert::WalkError;
+use cells::{is_shaped, size_of};
+use moving::{clear_both, move_into};
 
-// What a move says, with its refusals.
-#[derive(Clone, Copy)]
-pub enum MoveSaid {
-    // The record of the new table.
-    Moved(Table),
+// How a move is refused.
+#[derive(Clone, Copy, Debug, PartialEq, Eq)]
+pub enum MoveError {
     // 1
     Shape,
     // 4
@@ -28,14 +26,14 @@ pub enum MoveSaid {
     Broken,
 }
 
-// By how the move ended: the new record keeps the hasher.
-fn said_of(end: MoveEnd, hasher: Hasher) -> MoveSaid
-    ensures { move_said result ≡ end_said hasher (end_of end) }
-{
-    match end {
-        MoveEnd::All(live) => MoveSaid::Moved(Table { hasher, live }),
-        MoveEnd::Full(at) => MoveSaid::Full(at),
-        MoveEnd::Broken => MoveSaid::Broken,
+impl From<WalkError> for MoveError {
+    ghost from_gives = { λ walked error. error ≡ walk_error walked };
+
+    fn from(error: WalkError) -> MoveError {
+        match error {
+            WalkError::Full(at) => MoveError::Full(at),
+            WalkError::Broken => MoveError::Broken,
+        }
     }
 }
 
@@ -47,7 +45,7 @@ fn move_past(
     words: &mut [u64],
     deltas: &mut [u8],
     cells: usize,
-) -> MoveEnd
+) -> Result<usize, WalkError>
     requires { (3 * size ≤ length from.now) × (is_size cells ≡ true) × (length words.old ≡ 3 * cells) × (length deltas.old ≡ 2 * cells) }
     ensures { (ds : List ℕ) → record { ended = end_of result; words = words.new; deltas = deltas.new } ≡ into_by cells (move_end (move_all null size (held_in from.now ds) (counts_of live) cells (clear_held cells)) (move_all null size (held_in from.now ds) (counts_of live) cells (clear_held cells)).ended) words.old deltas.old }
 {
@@ -63,19 +61,15 @@ pub fn move_table(
     table: Table,
     words: &mut [u64],
     deltas: &mut [u8],
-) -> MoveSaid
+) -> Result<Table, MoveError>
     ensures { move_left result words.new deltas.new ≡ move_rule from_words.now from_deltas.now table words.old deltas.old }
 {
     let hasher = table.hasher;
-    let live = table.live;
-    if passes(from_words, from_deltas, live) {
-        if is_shaped(words, deltas) {
-            let size = from_deltas.len() / 2;
-            let cells = deltas.len() / 2;
-            let end = move_past(from_words, size, live, words, deltas, cells);
-            return said_of(end, hasher);
-        }
-        return MoveSaid::Shape;
+    let size = size_of(from_words, from_deltas, table.live).ok_or(MoveError::Shape)?;
+    if !is_shaped(words, deltas) {
+        return Err(MoveError::Shape);
     }
-    MoveSaid::Shape
+    let cells = deltas.len() / 2;
+    let live = move_past(from_words, size, table.live, words, deltas, cells)?;
+    Ok(Table { hasher, live })
 }

@@ -3,15 +3,15 @@ use mathlib.Core.Bool.{Bool, true, false, cond}
 use mathlib.Core.List.{List, [], ◌∷◌}
 use mathlib.Core.Path.{◌≡◌, refl, ap, ◌∙◌}
 use Prim.Native.Nat.{ℕ}
-use native.Mathlib.Omega.{arith}
 use lib.Dec.{eqb}
+use Rattle.std.specs.Prelude.{Result, Ok, Err, is_err}
 use Rattle.rules.specs.Answers.{Change}
 use Rattle.rules.specs.Moves.{Held, Ended, all, stop, Moved, stop_with, move_cells, totalled, move_all, move_end}
 use Rattle.cells.specs.Layout.{null, counts_of, fresh_words, fresh_deltas}
 use Rattle.moving.specs.Slices.{held_in, clear_held, words_after_all, deltas_after_all}
-use Rattle.moving.specs.declared.MoveEnd.{MoveEnd}
-use Rattle.moving.specs.declared.MoveEnd.TheVariants.{All, Full, Broken}
-use Rattle.moving.specs.Ends.{end_of, end_totalled, went_over, Placed, over, stops, placed, placed_by, Into, into_by}
+use Rattle.cells.specs.declared.insert.WalkError.{WalkError}
+use Rattle.cells.specs.declared.insert.WalkError.TheVariants.{Full, Broken}
+use Rattle.moving.specs.Ends.{end_of, end_totalled, Placed, over, stops, placed, placed_by, Into, into_by}
 
 -- ---- the whole move
 
@@ -26,27 +26,26 @@ module _ (C live : ℕ) where
   into (stops n l) = stopped n l
 
   -- by the code's end
-  abbrev into_end : MoveEnd → List ℕ → List ℕ → Into
-  into_end (All total) ws ds = record { ended = all (counts_of total); words = ws; deltas = ds }
-  into_end (Full at) ws ds = stopped 4 (at.position ∷ [])
-  into_end Broken ws ds = stopped 5 []
+  abbrev into_end : Result ℕ WalkError → List ℕ → List ℕ → Into
+  into_end (Ok total) ws ds = record { ended = all (counts_of total); words = ws; deltas = ds }
+  into_end (Err (Full at)) ws ds = stopped 4 (at.position ∷ [])
+  into_end (Err Broken) ws ds = stopped 5 []
 
-  over_kept : (e : MoveEnd) (ws ds : List ℕ) → went_over e ≡ true → record { ended = end_of e; words = ws; deltas = ds } ≡ into_end e ws ds
-  over_kept (All total) ws ds t = refl
-  over_kept (Full at) ws ds t = let z : ◌≡◌ {A = ℕ} 0 1 = cc in absurd (omega arith)
-  over_kept Broken ws ds t = let z : ◌≡◌ {A = ℕ} 0 1 = cc in absurd (omega arith)
+  over_kept : (e : Result ℕ WalkError) (ws ds : List ℕ) → is_err e ≡ false → record { ended = end_of e; words = ws; deltas = ds } ≡ into_end e ws ds
+  over_kept (Ok total) ws ds t = refl
+  over_kept (Err e) ws ds t = cc
 
-  stop_cleared : (e : MoveEnd) (ws ds : List ℕ) → went_over e ≡ false → record { ended = end_of e; words = fresh_words C; deltas = fresh_deltas C } ≡ into_end e ws ds
-  stop_cleared (All total) ws ds t = let z : ◌≡◌ {A = ℕ} 0 1 = cc in absurd (omega arith)
-  stop_cleared (Full at) ws ds t = refl
-  stop_cleared Broken ws ds t = refl
+  stop_cleared : (e : Result ℕ WalkError) (ws ds : List ℕ) → is_err e ≡ true → record { ended = end_of e; words = fresh_words C; deltas = fresh_deltas C } ≡ into_end e ws ds
+  stop_cleared (Ok total) ws ds t = cc
+  stop_cleared (Err (Full at)) ws ds t = refl
+  stop_cleared (Err Broken) ws ds t = refl
 
-  into_end_lem : (e : MoveEnd) (ws ds : List ℕ) → into_end (end_totalled live e) ws ds ≡ into (placed (end_of e) ws ds)
-  into_end_lem (Full at) ws ds = refl
-  into_end_lem Broken ws ds = refl
-  into_end_lem (All total) ws ds = go (eqb total live)
+  into_end_lem : (e : Result ℕ WalkError) (ws ds : List ℕ) → into_end (end_totalled live e) ws ds ≡ into (placed (end_of e) ws ds)
+  into_end_lem (Err (Full at)) ws ds = refl
+  into_end_lem (Err Broken) ws ds = refl
+  into_end_lem (Ok total) ws ds = go (eqb total live)
     where
-      go : (b : Bool) → into_end (cond b (All total) Broken) ws ds ≡ cond b (record { ended = all (counts_of total); words = ws; deltas = ds }) (stopped 5 [])
+      go : (b : Bool) → into_end (cond b (Ok total) (Err Broken)) ws ds ≡ cond b (record { ended = all (counts_of total); words = ws; deltas = ds }) (stopped 5 [])
       go true = refl
       go false = refl
 
@@ -69,16 +68,16 @@ module _ (C live : ℕ) where
     unfolding move_all
     into_all = let m = move_cells null from T S 0 (clear_held C) (counts_of 0) in into_by_lem m.ended m.fills ws ds
 
-    module _ (ew : ws ≡ fresh_words C) (ed : ds ≡ fresh_deltas C) (e : MoveEnd) (ws' ds' : List ℕ) (p : placed (end_of e) ws' ds' ≡ placed_by (move_cells null from T S 0 (held_in ws ds) (counts_of 0)) ws ds) (e' : MoveEnd) (q : e' ≡ end_totalled live e) where
+    module _ (ew : ws ≡ fresh_words C) (ed : ds ≡ fresh_deltas C) (e : Result ℕ WalkError) (ws' ds' : List ℕ) (p : placed (end_of e) ws' ds' ≡ placed_by (move_cells null from T S 0 (held_in ws ds) (counts_of 0)) ws ds) (e' : Result ℕ WalkError) (q : e' ≡ end_totalled live e) where
       by_end : into_end (end_totalled live e) ws' ds' ≡ Whole
       by_end = into_end_lem e ws' ds' ∙ ap into (p ∙ λ t. placed_by (move_cells null from T S 0 (held_in (ew t) (ed t)) (counts_of 0)) (ew t) (ed t)) ∙ into_all
 
       -- all went over
-      pub into_moved : went_over e' ≡ true → record { ended = end_of e'; words = ws'; deltas = ds' } ≡ Whole
+      pub into_moved : is_err e' ≡ false → record { ended = end_of e'; words = ws'; deltas = ds' } ≡ Whole
       into_moved t = over_kept e' ws' ds' t ∙ rw q by_end
 
       -- a cell or the total stopped it, and all was cleared again
-      pub into_stopped : {ws'' ds'' : List ℕ} → went_over e' ≡ false → (ws'' ≡ fresh_words C) × (ds'' ≡ fresh_deltas C) → record { ended = end_of e'; words = ws''; deltas = ds'' } ≡ Whole
+      pub into_stopped : {ws'' ds'' : List ℕ} → is_err e' ≡ true → (ws'' ≡ fresh_words C) × (ds'' ≡ fresh_deltas C) → record { ended = end_of e'; words = ws''; deltas = ds'' } ≡ Whole
       into_stopped t c = (λ i. record { ended = end_of e'; words = c.0 i; deltas = c.1 i }) ∙ stop_cleared e' ws' ds' t ∙ rw q by_end
 
 -- a move clears its destination first, so what it leaves does not go by what was there

@@ -6,19 +6,20 @@ use Prim.Native.Nat.{ℕ, suc, ◌+◌, ◌-◌, ◌≤◌, ◌<◌}
 use native.Mathlib.Omega.{arith}
 use borrow.Author.Tests.{eq-eqb, ne_eqb}
 use lib.Dec.{eqb}
+use Rattle.std.specs.Prelude.{Result, Ok, Err}
 use Rattle.rules.specs.Cells.{Counts}
 use Rattle.rules.specs.Answers.{Said, found, absent, new, replaced, revived, removed, refused, Change, Outcome}
 use Rattle.rules.specs.Calls.{insert_stored}
-use Rattle.rules.specs.Moves.{Held, held_after, all, stop, Moved, stop_with, cell_moved, move_cells}
+use Rattle.rules.specs.Moves.{Held, held_after, all, Moved, stop_with, cell_moved, move_cells}
 use Rattle.steps.proofs.Sizes.{size_least}
 use Rattle.cells.specs.Layout.{Shaped, Done, done_by, null, view, value_in, counts_of, words_after, deltas_after}
-use Rattle.cells.specs.Workers.{insert_said, insert_done}
+use Rattle.cells.specs.Workers.{worker_said, insert_done}
 use Rattle.cells.specs.declared.insert.InsertSaid.{InsertSaid}
 use Rattle.cells.specs.declared.insert.InsertSaid.TheVariants as says
+use Rattle.cells.specs.declared.insert.WalkError.{WalkError}
+use Rattle.cells.specs.declared.insert.WalkError.TheVariants as fails
 use Rattle.cells.specs.declared.insert.Inserted.{Inserted}
 use Rattle.laws.proofs.Within.{stored_within}
-use Rattle.moving.specs.declared.MoveEnd.{MoveEnd}
-use Rattle.moving.specs.declared.MoveEnd.TheVariants.{All}
 use Rattle.moving.specs.Slices.{held_in}
 use Rattle.moving.specs.Ends.{end_of, end_after, Placed, over, stops, placed, placed_by}
 use Rattle.moving.proofs.Held.{held_changed}
@@ -51,15 +52,12 @@ by_rule revived change c ws ds = refl
 by_rule (removed v) change c ws ds = refl
 
 -- by the code
-by_code : (s : InsertSaid) (live : ℕ) (ws ds : List ℕ) → placed (end_of (end_after s live)) ws ds ≡ cell_placed (insert_said s) (counts_of live) ws ds
-by_code says.New live ws ds = refl
-by_code (says.Full at) live ws ds = refl
-by_code (says.Replaced old) live ws ds = refl
-by_code says.Revived live ws ds = refl
-by_code says.Shape live ws ds = refl
-by_code says.ZeroHash live ws ds = refl
-by_code says.Null live ws ds = refl
-by_code says.Broken live ws ds = refl
+by_code : (s : Result InsertSaid WalkError) (live : ℕ) (ws ds : List ℕ) → placed (end_of (end_after s live)) ws ds ≡ cell_placed (worker_said s) (counts_of live) ws ds
+by_code (Ok says.New) live ws ds = refl
+by_code (Ok (says.Replaced old)) live ws ds = refl
+by_code (Ok says.Revived) live ws ds = refl
+by_code (Err (fails.Full at)) live ws ds = refl
+by_code (Err fails.Broken) live ws ds = refl
 
 module _ (from : Held) (T i : ℕ) (ws ds : List ℕ) (c : Counts) (v : ℕ) (ev : v ≡ from.value i) where
   -- a cell with the value null stays behind
@@ -138,7 +136,7 @@ module _ (from : Held) (S T : ℕ) (ws ds : List ℕ) where
     unfolding move_cells
     left_end g = let z : S - i ≡ 0 = omega arith in let y = l.same in rw z at y
 
-    module _ (s : Shaped T ws ds) (g : i < S) (ws' ds' : List ℕ) (e : MoveEnd) (p : placed (end_of e) ws' ds' ≡ placed_by (move_cells null from T 1 i (held_in ws ds) (counts_of live)) ws ds) where
+    module _ (s : Shaped T ws ds) (g : i < S) (ws' ds' : List ℕ) (e : Result ℕ WalkError) (p : placed (end_of e) ws' ds' ≡ placed_by (move_cells null from T 1 i (held_in ws ds) (counts_of live)) ws ds) where
       stepped : then from T (S - (i + 1)) i (placed (end_of e) ws' ds') ≡ x
       stepped =
           let z : S - i ≡ suc (S - (i + 1)) = omega arith in
@@ -146,9 +144,13 @@ module _ (from : Held) (S T : ℕ) (ws ds : List ℕ) where
           ap (then from T (S - (i + 1)) i) p ∙ one_more from T (S - (i + 1)) i ws ds (counts_of live) s ∙ (rw z at y)
 
       -- cell i is passed
-      pub left_on : (total : ℕ) → e ≡ All total → Left from S T (i + 1) ws' ds' total x
+      pub left_on : (total : ℕ) → e ≡ Ok total → Left from S T (i + 1) ws' ds' total x
       left_on total q = let y = stepped in record { same = rw q at y }
 
       -- cell i stops it
-      pub left_stop : (n : ℕ) (k : List ℕ) → end_of e ≡ stop n k → stops n k ≡ x
-      left_stop n k q = let y = stepped in rw q at y
+      stopped : (x : WalkError) → then from T (S - (i + 1)) i (placed (end_of (Err x)) ws' ds') ≡ placed (end_of (Err x)) ws' ds'
+      stopped (fails.Full at) = refl
+      stopped fails.Broken = refl
+
+      pub left_stop : (f : WalkError) → e ≡ Err f → (r : Result ℕ WalkError) → r ≡ Err f → placed (end_of r) ws' ds' ≡ x
+      left_stop f q r q' = let y = stepped in let z = rw q at y in rw q' (sym (stopped f) ∙ z)

@@ -1,41 +1,31 @@
 -- How a move ends, with the slices of its destination.
-use Rattle.std.specs.Prelude.{Bool, true, false, cond, List, [], ◌∷◌, ℕ, eqb}
+use Rattle.std.specs.Prelude.{cond, List, [], ◌∷◌, ℕ, eqb, Result, Ok, Err}
 use Rattle.rules.specs.Cells.{Counts}
 use Rattle.rules.specs.Moves.{Ended, all, stop, Moved, MoveOutcome}
 use Rattle.cells.specs.Layout.{counts_of}
 use Rattle.cells.specs.declared.insert.InsertSaid.{InsertSaid}
 use Rattle.cells.specs.declared.insert.InsertSaid.TheVariants as says
-use Rattle.moving.specs.declared.MoveEnd.{MoveEnd}
-use Rattle.moving.specs.declared.MoveEnd.TheVariants.{All, Full, Broken}
+use Rattle.cells.specs.declared.insert.WalkError.{WalkError}
+use Rattle.cells.specs.declared.insert.WalkError.TheVariants.{Full, Broken}
 use Rattle.moving.specs.Slices.{words_after_all, deltas_after_all, words_become, deltas_become}
 
 -- each case by 01's number and with what it carries
-abbrev pub end_of : MoveEnd → Ended
-end_of (All live) = all (counts_of live)
-end_of (Full at) = stop 4 (at.position ∷ [])
-end_of Broken = stop 5 []
+abbrev pub end_of : Result ℕ WalkError → Ended
+end_of (Ok live) = all (counts_of live)
+end_of (Err (Full at)) = stop 4 (at.position ∷ [])
+end_of (Err Broken) = stop 5 []
 
--- by the insert's answer for a cell: Full is 4, any other answer but New is 5
-abbrev pub end_after : InsertSaid → ℕ → MoveEnd
-end_after says.New live = All live
-end_after (says.Full at) live = Full at
-end_after (says.Replaced old) live = Broken
-end_after says.Revived live = Broken
-end_after says.Shape live = Broken
-end_after says.ZeroHash live = Broken
-end_after says.Null live = Broken
-end_after says.Broken live = Broken
+-- by the insert's answer for a cell: a refusal is the move's, any other answer but New is 5
+abbrev pub end_after : Result InsertSaid WalkError → ℕ → Result ℕ WalkError
+end_after (Ok says.New) live = Ok live
+end_after (Ok (says.Replaced old)) live = Err Broken
+end_after (Ok says.Revived) live = Err Broken
+end_after (Err e) live = Err e
 
 -- the total comes last: it must be live
-abbrev pub end_totalled : ℕ → MoveEnd → MoveEnd
-end_totalled live (All total) = cond (eqb total live) (All total) Broken
-end_totalled live (Full at) = Full at
-end_totalled live Broken = Broken
-
-abbrev pub went_over : MoveEnd → Bool
-went_over (All live) = true
-went_over (Full at) = false
-went_over Broken = false
+abbrev pub end_totalled : ℕ → Result ℕ WalkError → Result ℕ WalkError
+end_totalled live (Ok total) = cond (eqb total live) (Ok total) (Err Broken)
+end_totalled live (Err e) = Err e
 
 -- where all cells went over, the counts and both slices; where one did not, the refusal alone: the slices are cleared next
 pub data Placed : Type 0 where

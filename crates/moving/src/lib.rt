@@ -6,23 +6,12 @@ ghost use Rattle.rules.specs.Sizes.{is_size};
 ghost use Rattle.rules.specs.Moves.{move_cells, move_all, move_end};
 ghost use Rattle.cells.specs.Layout.{Shaped, null, counts_of, fresh_words, fresh_deltas};
 ghost use Rattle.moving.specs.Slices.{held_in, clear_held};
-ghost use Rattle.moving.specs.Ends.{end_of, end_after, end_totalled, went_over, placed, placed_by, into_by};
+ghost use Rattle.moving.specs.Ends.{end_of, end_after, end_totalled, placed, placed_by, into_by};
 
-use cells::Table;
 use cells::clear::{clear_deltas, clear_words};
-use cells::insert::{FullAt, InsertSaid, insert_stored};
+use cells::insert::{InsertSaid, WalkError, insert_stored};
 use cells::slices::{hash_at, key_at, value_at};
-
-// How a move ends.
-#[derive(Clone, Copy)]
-pub enum MoveEnd {
-    // All went over, so many.
-    All(usize),
-    // 4
-    Full(FullAt),
-    // 5
-    Broken,
-}
+use cells::{Cell, Table};
 
 // Both slices, which hold so many cells.
 pub fn clear_both(words: &mut [u64], deltas: &mut [u8], cells: usize)
@@ -33,19 +22,13 @@ pub fn clear_both(words: &mut [u64], deltas: &mut [u8], cells: usize)
     clear_deltas(deltas);
 }
 
-// By what the insert of a cell said.
-fn end_after(said: InsertSaid, live: usize) -> MoveEnd
+// By what the insert of a cell said, the counted cells: a cell that was there before is 5.
+fn end_after(said: Result<InsertSaid, WalkError>, live: usize) -> Result<usize, WalkError>
     ensures { result ≡ end_after said live }
 {
-    match said {
-        InsertSaid::New => MoveEnd::All(live),
-        InsertSaid::Full(at) => MoveEnd::Full(at),
-        InsertSaid::Replaced(_) => MoveEnd::Broken,
-        InsertSaid::Revived => MoveEnd::Broken,
-        InsertSaid::Shape => MoveEnd::Broken,
-        InsertSaid::ZeroHash => MoveEnd::Broken,
-        InsertSaid::Null => MoveEnd::Broken,
-        InsertSaid::Broken => MoveEnd::Broken,
+    match said? {
+        InsertSaid::New => Ok(live),
+        InsertSaid::Replaced(_) | InsertSaid::Revived => Err(WalkError::Broken),
     }
 }
 
@@ -57,80 +40,51 @@ fn move_cell(
     deltas: &mut [u8],
     to: usize,
     live: usize,
-) -> MoveEnd
+) -> Result<usize, WalkError>
     requires { (3 * i + 2 < length from.now) × Shaped to words.old deltas.old }
     ensures { (ds : List ℕ) → placed (end_of result) words.new deltas.new ≡ placed_by (move_cells null (held_in from.now ds) to 1 i (held_in words.old deltas.old) (counts_of live)) words.old deltas.old }
 {
     let value = value_at(from, i);
     if value == Table::NULL {
-        return MoveEnd::All(live);
+        return Ok(live);
     }
     let hash = hash_at(from, i);
     if hash == 0 {
-        return MoveEnd::Broken;
+        return Err(WalkError::Broken);
     }
     let key = key_at(from, i);
-    let done = insert_stored(words, deltas, to, live, hash, key, value);
-    let said = done.said;
-    end_after(said, done.live)
+    let done = insert_stored(words, deltas, to, live, Cell { hash, key, value });
+    end_after(done.said, done.live)
 }
 
 // The live cells among the first `size` of the source go over in index order, into a table of `to` cells in the front of
-// the slices.
+// the slices. So many went over, or the first that did not stops the move.
 pub fn move_cells(
     from: &[u64],
     size: usize,
     words: &mut [u64],
     deltas: &mut [u8],
     to: usize,
-) -> MoveEnd
+) -> Result<usize, WalkError>
     requires { (3 * size ≤ length from.now) × Shaped to words.old deltas.old }
     ensures { (ds : List ℕ) → placed (end_of result) words.new deltas.new ≡ placed_by (move_cells null (held_in from.now ds) to size 0 (held_in words.old deltas.old) (counts_of 0)) words.old deltas.old }
 {
-    let mut live: usize = 0;
-    let mut i: usize = 0;
-    while i < size {
-        let end = move_cell(from, i, words, deltas, to, live);
-        match end {
-            MoveEnd::All(total) => {
-                live = total;
-                i += 1;
-            }
-            MoveEnd::Full(at) => {
-                return MoveEnd::Full(at);
-            }
-            MoveEnd::Broken => {
-                return MoveEnd::Broken;
-            }
-        }
+    let mut live = 0;
+    for i in 0..size {
+        live = move_cell(from, i, words, deltas, to, live)?;
     }
-    MoveEnd::All(live)
+    Ok(live)
 }
 
 // The total must be the source's live.
-fn totalled(end: MoveEnd, live: usize) -> MoveEnd
+fn totalled(end: Result<usize, WalkError>, live: usize) -> Result<usize, WalkError>
     ensures { result ≡ end_totalled live end }
 {
-    match end {
-        MoveEnd::All(total) => {
-            if total == live {
-                return MoveEnd::All(total);
-            }
-            MoveEnd::Broken
-        }
-        MoveEnd::Full(at) => MoveEnd::Full(at),
-        MoveEnd::Broken => MoveEnd::Broken,
+    let total = end?;
+    if total == live {
+        return Ok(total);
     }
-}
-
-fn went_over(end: MoveEnd) -> bool
-    ensures { result ≡ went_over end }
-{
-    match end {
-        MoveEnd::All(_) => true,
-        MoveEnd::Full(_) => false,
-        MoveEnd::Broken => false,
-    }
+    Err(WalkError::Broken)
 }
 
 // A whole move into clear slices of `cells` cells. Where it stops, they are cleared again, whole.
@@ -142,15 +96,14 @@ pub fn move_into(
     deltas: &mut [u8],
     cells: usize,
     to: usize,
-) -> MoveEnd
+) -> Result<usize, WalkError>
     requires { (3 * size ≤ length from.now) × (words.old ≡ fresh_words cells) × (deltas.old ≡ fresh_deltas cells) × (is_size to ≡ true) × (to ≤ cells) }
     ensures { (ds : List ℕ) → record { ended = end_of result; words = words.new; deltas = deltas.new } ≡ into_by cells (move_end (move_all null size (held_in from.now ds) (counts_of live) to (clear_held cells)) (move_all null size (held_in from.now ds) (counts_of live) to (clear_held cells)).ended) words.old deltas.old }
 {
     let moved = move_cells(from, size, words, deltas, to);
     let end = totalled(moved, live);
-    if went_over(end) {
-        return end;
+    if end.is_err() {
+        clear_both(words, deltas, cells);
     }
-    clear_both(words, deltas, cells);
     end
 }

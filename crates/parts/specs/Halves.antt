@@ -56,7 +56,7 @@ lent_halves lw ld uw ud g =
 -- ---- the parts
 
 -- the first numbers of the half in use, so many to each of its S cells; none where the lengths or the record fail check 1
-unfoldable pub part : (each C : ℕ) → List ℕ → List ℕ → Growing → List ℕ
+unfoldable pub part : {A : Type 0} → (each C : ℕ) → List A → List A → Growing → List A
 part each C l u g =
     cond (are_pair each C (length l) (length u) && record_fits C g) (take (each * g.size) (of_half (half_of g.half) l u)) []
 

@@ -9,17 +9,12 @@ use cells::Table;
 pub fn table(growing: Growing) -> Table
     ensures { result ≡ growing.table }
 {
-    let table = growing.table;
-    let hasher = table.hasher;
-    let live = table.live;
-    Table { hasher, live }
+    growing.table
 }
 
 // The growing record with the table record that a call on the parts gave.
 pub fn with_table(growing: Growing, table: Table) -> Growing
     ensures { result ≡ with_table growing table }
 {
-    let size = growing.size;
-    let half = growing.half;
-    Growing { table, size, half }
+    Growing { table, ..growing }
 }

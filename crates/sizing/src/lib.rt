@@ -24,14 +24,12 @@ pub fn sample(words: &[u64], size: usize, carried: u64) -> usize
     ensures { (h : Hasher) (ds : List ℕ) → result ≡ sample·rule (params_of size h) (view words.now ds) (value_in words.now) carried }
 {
     let start = wrapping_sub_u64(carried, SAMPLED);
-    let mut n: usize = 0;
-    let mut i: u64 = 0;
-    while i < SAMPLED {
+    let mut n = 0;
+    for i in 0..SAMPLED {
         let at = wrapping_add_u64(start, i);
         if is_live(words, cell_of(at, size)) {
             n += 1;
         }
-        i += 1;
     }
     n
 }
@@ -39,13 +37,11 @@ pub fn sample(words: &[u64], size: usize, carried: u64) -> usize
 fn at_least(size: usize) -> usize
     ensures { result ≡ max (2 ^ least_log) size }
 {
-    if size < Table::LEAST_SIZE {
-        return Table::LEAST_SIZE;
-    }
-    size
+    size.max(Table::LEAST_SIZE)
 }
 
 // The first size to try after Full, where a sample counted n: size * n / 32 rounded up to a power of two, at least the least size.
+#[tactic(auto, using(crate::proofs::Sizes::product_fits), unfolding(rules::specs::Growth::first_size))]
 pub fn first_size(size: usize, n: usize) -> usize
     requires { (is_size size ≡ true) × (n ≤ sampled) }
     ensures { result ≡ first_size size n }
@@ -64,6 +60,7 @@ fn estimate_f32(size: usize, n: usize) -> u64
 }
 
 // The first size, computed as the Rust computes it.
+#[tactic(auto, using(crate::proofs::Twin::estimate_is), unfolding(rules::specs::Growth::first_size))]
 pub fn first_size_f32(size: usize, n: usize) -> usize
     requires { (is_size size ≡ true) × (n ≤ sampled) }
     ensures { result ≡ first_size size n }

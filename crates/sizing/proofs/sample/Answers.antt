@@ -14,12 +14,6 @@ is_live-requires c = cell_in _ _ _ _ c.requires.0 c.requires.1 c.cell_of.ensures
 pub overflow_add-n : goal.overflow_add-n
 overflow_add-n c = omega (arith, c.loop-i.invariant.most, c.loop-i.invariant.within)
 
-pub overflow_add-i : goal.overflow_add-i
-overflow_add-i c = omega arith
-
-pub loop-i-smaller : goal.loop-i-smaller
-loop-i-smaller c = omega arith
-
 pub loop-i-preserved : goal.loop-i-preserved
 loop-i-preserved c =
     elim c.if-is_live.branch [
