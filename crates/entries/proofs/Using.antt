@@ -1,4 +1,5 @@
 -- Each branch of the rules of entries, as the code takes it. Assumes nothing.
+use Rattle.std.specs.Prelude.{Result, Ok, Err}
 use mathlib.Core.Bool.{Bool, true, false, cond, not, ◌&&◌, ◌||◌}
 use mathlib.Core.List.{List, []}
 use mathlib.Core.Logic.{◌≢◌}
@@ -16,9 +17,9 @@ use Rattle.cells.specs.declared.Table.{Table}
 use Rattle.cells.specs.Layout.{Shaped, null, is_shaped, size_in, lent, hash_in, value_in, holds_in}
 use Rattle.cells.proofs.Shapes.{words_hold, passed}
 use Rattle.entries.specs.declared.looking.CellValue.{CellValue}
-use Rattle.entries.specs.declared.looking.Looked.{Looked}
-use Rattle.entries.specs.declared.looking.Looked.TheVariants.{Held, ZeroHash, Stale}
-use Rattle.entries.specs.Workers.{HeldAt, Unheld, other_hash, not_occupied, lost, gone, Looks}
+use Rattle.entries.specs.declared.looking.LookError.{LookError}
+use Rattle.entries.specs.declared.looking.LookError.TheVariants.{ZeroHash, Stale}
+use Rattle.entries.specs.Workers.{HeldAt, Unheld, other_hash, not_occupied, lost, gone, Looks, look_failed}
 
 -- ---- the checks of a use
 
@@ -128,16 +129,15 @@ module _ (ws ds : List ℕ) (t : Table) (e : Entry) (a : Action) (s : use_shape 
 
 -- ---- the same by what the code's look answered
 
-module _ (ws ds : List ℕ) (t : Table) (e : Entry) (a : Action) (s : use_shape (lent ws ds t) e.place ≡ 0) (o : offers null a ≡ 0) (r : Looked) (w : Looks (hash_of t.hasher) ws e r) where
-  pub on_held : (cell : CellValue) → r ≡ Held cell → use_entry (lent ws ds t) e a ≡ used_at (lent ws ds t) cell.index cell.value a
+module _ (ws ds : List ℕ) (t : Table) (e : Entry) (a : Action) (s : use_shape (lent ws ds t) e.place ≡ 0) (o : offers null a ≡ 0) (r : Result CellValue LookError) (w : Looks (hash_of t.hasher) ws e r) where
+  pub on_held : (cell : CellValue) → r ≡ Ok cell → use_entry (lent ws ds t) e a ≡ used_at (lent ws ds t) cell.index cell.value a
   on_held cell q = use_held ws ds t e a s o cell.index cell.value (rw q at w)
 
-  pub on_zero : r ≡ ZeroHash → use_entry (lent ws ds t) e a ≡ leave (refused 2 []) 0 (lent ws ds t).counts
-  on_zero q = use_zero (lent ws ds t) e a s o (rw q at w)
-
-  pub on_stale : r ≡ Stale → (e.place ≡ vacant → used_vacant (lent ws ds t) e a ≡ leave (refused 7 []) 0 (lent ws ds t).counts)
-      → use_entry (lent ws ds t) e a ≡ leave (refused 7 []) 0 (lent ws ds t).counts
-  on_stale q f = let u = rw q at w in use_unheld ws ds t e a s o u.0 u.1 f
+  -- refused, where the action is not a Vacant entry's
+  pub on_error : (x : LookError) → r ≡ Err x → (e.place ≡ vacant → used_vacant (lent ws ds t) e a ≡ leave (refused 7 []) 0 (lent ws ds t).counts)
+      → use_entry (lent ws ds t) e a ≡ leave (look_failed x) 0 (lent ws ds t).counts
+  on_error ZeroHash q f = use_zero (lent ws ds t) e a s o (rw q at w)
+  on_error Stale q f = let u = rw q at w in use_unheld ws ds t e a s o u.0 u.1 f
 
 -- ---- what check 1 shows
 
@@ -154,5 +154,5 @@ use_ready ws ds live p e = go (is_shaped ws ds && leb live (size_in ds)) refl e
     go false q e = let z : ◌≡◌ {A = ℕ} 0 1 = cc in absurd (omega arith)
 
 -- the cell of a look is the entry's
-pub looked_at : (f : ℕ → ℕ) (ws : List ℕ) (e : Entry) (r : Looked) → Looks f ws e r → (cell : CellValue) → r ≡ Held cell → e.place ≡ occupied cell.index
+pub looked_at : (f : ℕ → ℕ) (ws : List ℕ) (e : Entry) (r : Result CellValue LookError) → Looks f ws e r → (cell : CellValue) → r ≡ Ok cell → e.place ≡ occupied cell.index
 looked_at f ws e r w cell q = let h = rw q at w in h.at
