@@ -1,4 +1,5 @@
 -- Each branch of the rules of entries, as the code takes it. Assumes nothing.
+use Rattle.std.specs.Prelude.{Option, Some, None, Result, Ok, Err}
 use mathlib.Core.Bool.{Bool, true, false, cond, not, ◌&&◌, ◌||◌}
 use mathlib.Core.List.{List, []}
 use mathlib.Core.Logic.{◌≢◌}
@@ -16,9 +17,9 @@ use Rattle.cells.specs.declared.Table.{Table}
 use Rattle.cells.specs.Layout.{Shaped, null, is_shaped, size_in, lent, hash_in, value_in, holds_in}
 use Rattle.cells.proofs.Shapes.{words_hold, passed}
 use Rattle.entries.specs.declared.looking.CellValue.{CellValue}
-use Rattle.entries.specs.declared.looking.Looked.{Looked}
-use Rattle.entries.specs.declared.looking.Looked.TheVariants.{Held, ZeroHash, Stale}
-use Rattle.entries.specs.Workers.{HeldAt, Unheld, other_hash, not_occupied, lost, gone, Looks}
+use Rattle.entries.specs.declared.looking.LookError.{LookError}
+use Rattle.entries.specs.declared.looking.LookError.TheVariants.{ZeroHash, Stale}
+use Rattle.entries.specs.Workers.{HeldAt, Unheld, other_hash, not_occupied, lost, gone, Looks, look_failed}
 
 -- ---- the checks of a use
 
@@ -126,19 +127,6 @@ module _ (ws ds : List ℕ) (t : Table) (e : Entry) (a : Action) (s : use_shape 
       lives_not true false = refl
       lives_not false y = refl
 
--- ---- the same by what the code's look answered
-
-module _ (ws ds : List ℕ) (t : Table) (e : Entry) (a : Action) (s : use_shape (lent ws ds t) e.place ≡ 0) (o : offers null a ≡ 0) (r : Looked) (w : Looks (hash_of t.hasher) ws e r) where
-  pub on_held : (cell : CellValue) → r ≡ Held cell → use_entry (lent ws ds t) e a ≡ used_at (lent ws ds t) cell.index cell.value a
-  on_held cell q = use_held ws ds t e a s o cell.index cell.value (rw q at w)
-
-  pub on_zero : r ≡ ZeroHash → use_entry (lent ws ds t) e a ≡ leave (refused 2 []) 0 (lent ws ds t).counts
-  on_zero q = use_zero (lent ws ds t) e a s o (rw q at w)
-
-  pub on_stale : r ≡ Stale → (e.place ≡ vacant → used_vacant (lent ws ds t) e a ≡ leave (refused 7 []) 0 (lent ws ds t).counts)
-      → use_entry (lent ws ds t) e a ≡ leave (refused 7 []) 0 (lent ws ds t).counts
-  on_stale q f = let u = rw q at w in use_unheld ws ds t e a s o u.0 u.1 f
-
 -- ---- what check 1 shows
 
 -- the cell of an Occupied entry lies within the words
@@ -153,6 +141,44 @@ use_ready ws ds live p e = go (is_shaped ws ds && leb live (size_in ds)) refl e
     go true q e = ((passed ws ds live q).0, e)
     go false q e = let z : ◌≡◌ {A = ℕ} 0 1 = cc in absurd (omega arith)
 
+-- the size that check 1 of a use answers, or none
+module _ (ws ds : List ℕ) (t : Table) (p : Place) {o : Option ℕ} (w : o ≡ cond {A = Option ℕ} (is_shaped ws ds && leb t.live (size_in ds) && below (size_in ds) p) (Some (size_in ds)) None) where
+  pub sized : {n : ℕ} → o ≡ Some n → (n ≡ size_in ds) × (use_shape (lent ws ds t) p ≡ 0)
+  sized {n} q = go (is_shaped ws ds && leb t.live (size_in ds) && below (size_in ds) p) (sym q ∙ w)
+    where
+      go : (b : Bool) → Some n ≡ cond {A = Option ℕ} b (Some (size_in ds)) None → (n ≡ size_in ds) × (cond {A = ℕ} b 0 1 ≡ 0)
+      go true e = (cc, refl)
+      go false e = cc
+
+  pub unsized : o ≡ None → use_shape (lent ws ds t) p ≡ 1
+  unsized q = go (is_shaped ws ds && leb t.live (size_in ds) && below (size_in ds) p) (sym q ∙ w)
+    where
+      go : (b : Bool) → None ≡ cond {A = Option ℕ} b (Some (size_in ds)) None → cond {A = ℕ} b 0 1 ≡ 1
+      go true e = cc
+      go false e = refl
+
+  -- what the workers ask for
+  pub sized_ready : {n : ℕ} → o ≡ Some n → Shaped n ws ds × (below n p ≡ true)
+  sized_ready {n} q = go (is_shaped ws ds && leb t.live (size_in ds) && below (size_in ds) p) refl (sym q ∙ w)
+    where
+      go : (b : Bool) → is_shaped ws ds && leb t.live (size_in ds) && below (size_in ds) p ≡ b → Some n ≡ cond {A = Option ℕ} b (Some (size_in ds)) None
+          → Shaped n ws ds × (below n p ≡ true)
+      go true k e = let z : n ≡ size_in ds = cc in rw z (use_ready ws ds t.live p k)
+      go false k e = absurd (cc)
+
+-- ---- an Occupied entry's actions, by what the code's look answered
+
+module _ (ws ds : List ℕ) (t : Table) (e : Entry) (a : Action) {m : Option ℕ} {n : ℕ} (c : m ≡ cond {A = Option ℕ} (is_shaped ws ds && leb t.live (size_in ds) && below (size_in ds) e.place) (Some (size_in ds)) None) (p : m ≡ Some n)
+    (o : offers null a ≡ 0) (r : Result CellValue LookError) (w : Looks (hash_of t.hasher) ws e r) where
+  pub on_held : (cell : CellValue) → r ≡ Ok cell → use_entry (lent ws ds t) e a ≡ used_at (lent ws ds t) cell.index cell.value a
+  on_held cell q = use_held ws ds t e a (sized ws ds t e.place c p).1 o cell.index cell.value (rw q at w)
+
+  -- refused, where the action is not a Vacant entry's
+  pub on_error : (x : LookError) → r ≡ Err x → (e.place ≡ vacant → used_vacant (lent ws ds t) e a ≡ leave (refused 7 []) 0 (lent ws ds t).counts)
+      → use_entry (lent ws ds t) e a ≡ leave (look_failed x) 0 (lent ws ds t).counts
+  on_error ZeroHash q f = use_zero (lent ws ds t) e a (sized ws ds t e.place c p).1 o (rw q at w)
+  on_error Stale q f = let u = rw q at w in use_unheld ws ds t e a (sized ws ds t e.place c p).1 o u.0 u.1 f
+
 -- the cell of a look is the entry's
-pub looked_at : (f : ℕ → ℕ) (ws : List ℕ) (e : Entry) (r : Looked) → Looks f ws e r → (cell : CellValue) → r ≡ Held cell → e.place ≡ occupied cell.index
+pub looked_at : (f : ℕ → ℕ) (ws : List ℕ) (e : Entry) (r : Result CellValue LookError) → Looks f ws e r → (cell : CellValue) → r ≡ Ok cell → e.place ≡ occupied cell.index
 looked_at f ws e r w cell q = let h = rw q at w in h.at

@@ -1,9 +1,11 @@
 -- What a look at an entry's cell shows.
-use Rattle.std.specs.Prelude.{true, false, List, ◌≢◌, ◌≡◌, ℕ}
+use Rattle.std.specs.Prelude.{true, false, List, [], ◌≢◌, ◌≡◌, ℕ, Result, Ok, Err}
+use Rattle.rules.specs.Answers.{Said, refused}
 use Rattle.rules.specs.Entries.{occupied, vacant, Entry}
 use Rattle.cells.specs.Layout.{null, value_in, holds_in}
-use Rattle.entries.specs.declared.looking.Looked.{Looked}
-use Rattle.entries.specs.declared.looking.Looked.TheVariants.{Held, ZeroHash, Stale}
+use Rattle.entries.specs.declared.looking.CellValue.{CellValue}
+use Rattle.entries.specs.declared.looking.LookError.{LookError}
+use Rattle.entries.specs.declared.looking.LookError.TheVariants.{ZeroHash, Stale}
 
 module _ (hash_of : ℕ → ℕ) (ws : List ℕ) (e : Entry) where
   -- the entry's cell i holds its hash and key live, with the value v
@@ -22,7 +24,12 @@ module _ (hash_of : ℕ → ℕ) (ws : List ℕ) (e : Entry) where
     lost : (i : ℕ) → e.place ≡ occupied i → holds_in ws i e.hash e.key ≡ false → Unheld
     gone : (i : ℕ) → e.place ≡ occupied i → value_in ws i ≡ null → Unheld
 
-  abbrev pub Looks : Looked → Type 0
-  Looks (Held cell) = HeldAt cell.index cell.value
-  Looks ZeroHash = hash_of e.key ≡ 0
-  Looks Stale = (hash_of e.key ≢ 0) × Unheld
+  abbrev pub Looks : Result CellValue LookError → Type 0
+  Looks (Ok cell) = HeldAt cell.index cell.value
+  Looks (Err ZeroHash) = hash_of e.key ≡ 0
+  Looks (Err Stale) = (hash_of e.key ≢ 0) × Unheld
+
+-- a look's refusal, by 01's number
+abbrev pub look_failed : LookError → Said
+look_failed ZeroHash = refused 2 []
+look_failed Stale = refused 7 []

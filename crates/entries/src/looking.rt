@@ -1,5 +1,5 @@
 // Internal: the checks of an entry's use.
-ghost use Rattle.std.specs.Prelude.{true, ◌&&◌, ◌≡◌, ◌*◌, ◌≤◌, leb, length};
+ghost use Rattle.std.specs.Prelude.{true, ◌&&◌, ◌≡◌, ◌*◌, ◌≤◌, nat_le, length, cond, Some, None};
 ghost use Rattle.hashers.specs.Keys.{hash_of};
 ghost use Rattle.cells.specs.Layout.{is_shaped, size_in};
 ghost use Rattle.rules.specs.Entries.{below};
@@ -8,24 +8,18 @@ ghost use Rattle.entries.specs.Workers.{Looks};
 
 use crate::record::{Entry, Place};
 use cells::slices::{holds_at, value_at};
-use cells::{Table, passes};
+use cells::{Table, size_of};
 use hashers::{Hasher, hash_of};
 
-// Check 1: the shape, and the cell of an Occupied entry.
-pub fn passes_at(words: &[u64], deltas: &[u8], live: usize, place: Place) -> bool
-    ensures { result ≡ (is_shaped words.now deltas.now && leb live (size_in deltas.now) && below (size_in deltas.now) (place_of place)) }
+// Check 1: how many cells the table has, or none where the shape fails or an Occupied entry's cell lies outside.
+pub fn size_at(words: &[u64], deltas: &[u8], live: usize, place: Place) -> Option<usize>
+    ensures { result ≡ cond (is_shaped words.now deltas.now && nat_le live (size_in deltas.now) && below (size_in deltas.now) (place_of place)) (Some (size_in deltas.now)) None }
 {
-    if passes(words, deltas, live) {
-        match place {
-            Place::Occupied(cell) => {
-                return cell.index < deltas.len() / 2;
-            }
-            Place::Vacant => {
-                return true;
-            }
-        }
+    let size = size_of(words, deltas, live)?;
+    match place {
+        Place::Occupied(cell) => (cell.index < size).then_some(size),
+        Place::Vacant => Some(size),
     }
-    false
 }
 
 // A cell with the value that it holds.
@@ -35,9 +29,9 @@ pub struct CellValue {
     pub value: u64,
 }
 
-#[derive(Clone, Copy)]
-pub enum Looked {
-    Held(CellValue),
+// Why an entry cannot be used as an Occupied one.
+#[derive(Clone, Copy, Debug, PartialEq, Eq)]
+pub enum LookError {
     // 2
     ZeroHash,
     // 7
@@ -45,33 +39,34 @@ pub enum Looked {
 }
 
 // Checks 2 and 7 of an action of Occupied entries, behind check 1.
-pub fn look(words: &[u64], size: usize, hasher: Hasher, entry: Entry) -> Looked
+pub fn look(
+    words: &[u64],
+    size: usize,
+    hasher: Hasher,
+    entry: Entry,
+) -> Result<CellValue, LookError>
     requires { (3 * size ≤ length words.now) × (below size (place_of entry.place) ≡ true) }
     ensures { Looks (hash_of hasher) words.now (entry_in entry) result }
 {
-    let key = entry.key;
-    let hash = hash_of(hasher, key);
+    let hash = hash_of(hasher, entry.key);
     if hash == 0 {
-        return Looked::ZeroHash;
+        return Err(LookError::ZeroHash);
     }
-    if entry.hash == hash {
-        let place = entry.place;
-        match place {
-            Place::Occupied(cell) => {
-                let index = cell.index;
-                if holds_at(words, index, hash, key) {
-                    let value = value_at(words, index);
-                    if value == Table::NULL {
-                        return Looked::Stale;
-                    }
-                    return Looked::Held(CellValue { index, value });
-                }
-                return Looked::Stale;
-            }
-            Place::Vacant => {
-                return Looked::Stale;
-            }
-        }
+    let Place::Occupied(cell) = entry.place else {
+        return Err(LookError::Stale);
+    };
+    if entry.hash != hash {
+        return Err(LookError::Stale);
     }
-    Looked::Stale
+    if !holds_at(words, cell.index, hash, entry.key) {
+        return Err(LookError::Stale);
+    }
+    let value = value_at(words, cell.index);
+    if value == Table::NULL {
+        return Err(LookError::Stale);
+    }
+    Ok(CellValue {
+        index: cell.index,
+        value,
+    })
 }

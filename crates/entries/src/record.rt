@@ -6,6 +6,7 @@ pub struct CellAt {
     pub index: usize,
 }
 
+// An enum of its own and no Option: the record's field says Occupied, with its cell, or Vacant (docs/01-scope.md).
 #[derive(Clone, Copy)]
 pub enum Place {
     Occupied(CellAt),

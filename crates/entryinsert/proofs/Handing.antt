@@ -1,84 +1,73 @@
 -- What a call that inserts hands back, from the outcome that its branch of the rules gives. Assumes nothing.
-use mathlib.Core.Bool.{Bool, true, false, cond, ◌&&◌}
+use Rattle.std.specs.Prelude.{cond, leb, ◌&&◌, Option, Some, None, Result, Ok, Err, IsErrAnd}
 use mathlib.Core.List.{List}
-use mathlib.Core.Path.{◌≡◌, refl, sym, ap, ◌∙◌}
+use mathlib.Core.Path.{◌≡◌, ap, ◌∙◌}
 use Prim.Native.Nat.{ℕ, ◌+◌, ◌*◌}
-use native.Mathlib.Omega.{arith}
-use lib.Dec.{leb}
 use lib.ListN.{set}
-use Rattle.rules.specs.Cells.{Counts, offered}
-use Rattle.rules.specs.Answers.{Said, Change, nothing, store, fill, Outcome, leave}
-use Rattle.rules.specs.Entries.{Place, occupied, vacant, Entry, Action, inserting, below, use_shape, offers, on_case, entry_after}
+use Rattle.hashers.specs.Keys.{hash_of}
+use Rattle.rules.specs.Cells.{offered}
+use Rattle.rules.specs.Answers.{Said, store, Outcome, leave}
+use Rattle.rules.specs.Entries.{Place, occupied, vacant, Action, inserting, below, offers, on_case, used_at, use_entry}
 use Rattle.cells.specs.declared.Table.{Table}
-use Rattle.cells.specs.Layout.{Shaped, null, is_shaped, size_in, lent, Done, done_by}
-use Rattle.cells.specs.Workers.{place_after}
-use Rattle.entryinsert.specs.Answers.{Handed, handed_by, insert_handed}
-use Rattle.entryinsert.specs.Workers.{doing, placed_by}
-use Rattle.entryinsert.specs.declared.giving.EntryInsertAnswer.{EntryInsertAnswer}
+use Rattle.cells.specs.Layout.{null, is_shaped, size_in, lent, done_by, counts_of}
+use Rattle.entries.specs.declared.looking.CellValue.{CellValue}
+use Rattle.entries.specs.declared.looking.LookError.{LookError}
+use Rattle.entries.specs.declared.record.Entry.{Entry}
+use Rattle.entries.specs.Answers.{place_of, entry_in}
+use Rattle.entries.specs.Workers.{Looks, look_failed}
+use Rattle.entries.proofs.Using.{looked_at, on_held, on_error}
 use Rattle.entryinsert.specs.declared.giving.Doing.{Doing}
 use Rattle.entryinsert.specs.declared.giving.Doing.TheVariants.{Refuse, Keep, Replace}
-use Rattle.entries.proofs.Using.{use_ready}
+use Rattle.entryinsert.specs.declared.vacant.EntryInsertError.{EntryInsertError}
+use Rattle.entryinsert.specs.declared.vacant.EntryInsertSaid.{EntryInsertSaid}
+use Rattle.entryinsert.specs.Answers.{entry_insert_failed, entry_insert_said, handed_by}
+use Rattle.entryinsert.specs.Workers.{doing}
 
-module _ (o : Outcome) (e : Entry) (t : Table) (ws ds : List ℕ) where
+-- the answer of an error that was passed on
+pub passed_on : (r : Result EntryInsertSaid EntryInsertError) (s : Said) → IsErrAnd r (λ x. entry_insert_failed x ≡ s) → entry_insert_said r ≡ s
+passed_on (Ok x) s p = absurd p
+passed_on (Err x) s p = p
+
+-- and of one that was named before
+pub passed_up : (r : Result EntryInsertSaid EntryInsertError) (e x : EntryInsertError) → IsErrAnd r (λ y. y ≡ e) → ◌≡◌ {A = Result ℕ EntryInsertError} (Err e) (Err x) → entry_insert_said r ≡ entry_insert_failed x
+passed_up (Ok v) e x p q = absurd p
+passed_up (Err y) e x p q = let z : y ≡ x = cc in ap entry_insert_failed z
+
+module _ (o : Outcome) (e : Entry) (t : Table) (ws ds : List ℕ) (told : Said) where
   -- nothing was changed: the entry stays
-  pub handed_left : {s : Said} {c : Counts} → o ≡ leave s 0 c
-      → record { entry = e; left = record { done = record { said = s; looked = 0; counts = c; words = ws; deltas = ds }; hasher = t.hasher } } ≡ handed_by o e t ws ds
+  pub handed_left : {s : Said} → told ≡ s → o ≡ leave s 0 (counts_of t.live)
+      → record { entry = entry_in e; left = record { done = record { said = told; looked = 0; counts = counts_of t.live; words = ws; deltas = ds }; hasher = t.hasher } } ≡ handed_by o (entry_in e) t ws ds
   unfolding done_by
-  handed_left q = ap (λ (o : Outcome). handed_by o e t ws ds) (sym q)
+  handed_left f q = rw (q, f)
 
   -- a value was stored in the entry's own cell
-  pub handed_stored : {s : Said} {c : Counts} (i v : ℕ) {ws' : List ℕ} → o ≡ record { said = s; looked = 0; counts = c; change = store i v } → e.place ≡ occupied i → ws' ≡ set ws (3 * i + 2) v
-      → record { entry = e; left = record { done = record { said = s; looked = 0; counts = c; words = ws'; deltas = ds }; hasher = t.hasher } } ≡ handed_by o e t ws ds
+  pub handed_stored : (i v : ℕ) {ws' : List ℕ} → o ≡ record { said = told; looked = 0; counts = counts_of t.live; change = store i v } → place_of e.place ≡ occupied i → ws' ≡ set ws (3 * i + 2) v
+      → record { entry = entry_in e; left = record { done = record { said = told; looked = 0; counts = counts_of t.live; words = ws'; deltas = ds }; hasher = t.hasher } } ≡ handed_by o (entry_in e) t ws ds
   unfolding done_by
-  handed_stored {s} {c} i v q p w =
-      (λ j. record {
-        entry = record { key = e.key; hash = e.hash; place = p j };
-        left = record { done = record { said = s; looked = 0; counts = c; words = w j; deltas = ds }; hasher = t.hasher };
-      })
-      ∙ ap (λ (o : Outcome). handed_by o e t ws ds) (sym q)
-
-  after_vacant : e.place ≡ vacant → (c : Change) → record { key = e.key; hash = e.hash; place = place_after c } ≡ entry_after e c
-  after_vacant p nothing = λ j. record { key = e.key; hash = e.hash; place = sym p j }
-  after_vacant p (store i v) = refl
-  after_vacant p (fill i h k v l) = refl
-
-  -- a Vacant entry's worker did what another rule says, which is this one here
-  pub handed_put : (o' : Outcome) (h : ℕ) {p : Place} {d : Done} → o ≡ o' → e.place ≡ vacant → e.hash ≡ h → record { place = p; done = d } ≡ placed_by o' ws ds
-      → record { entry = record { key = e.key; hash = h; place = p }; left = record { done = d; hasher = t.hasher } } ≡ handed_by o e t ws ds
-  handed_put o' h q v eh w =
-      (λ j. record {
-        entry = record { key = e.key; hash = sym eh j; place = (w j).place };
-        left = record { done = (w j).done; hasher = t.hasher };
-      })
-      ∙ (λ j. record { entry = after_vacant v o'.change j; left = record { done = done_by o' ws ds; hasher = t.hasher } })
-      ∙ ap (λ (o : Outcome). handed_by o e t ws ds) (sym q)
-
--- by another name of the answer
-pub as_handed : (r r' : EntryInsertAnswer) {ws ds : List ℕ} {x : Handed} → r ≡ r' → insert_handed r' ws ds ≡ x → insert_handed r ws ds ≡ x
-as_handed r r' {ws} {ds} q p = ap (λ (r : EntryInsertAnswer). insert_handed r ws ds) q ∙ p
-
-pub occupied_not_vacant : (p : Place) (i : ℕ) → p ≡ occupied i → p ≡ vacant → ⊥
-occupied_not_vacant p i a b = let z : ◌≡◌ {A = ℕ} 0 1 = cc in omega arith
+  handed_stored i v q p w = rw (q, p, w)
 
 -- what the code does offers the value, in either case
-pub doing_offers : (d : Doing) (v n : ℕ) → offered null v ≡ n → offers null (doing d v) ≡ n
-doing_offers Refuse v n e = e
-doing_offers Keep v n e = e
-doing_offers Replace v n e = e
-
 pub case_offers : (p : Place) (d : Doing) (v n : ℕ) → offered null v ≡ n → offers null (on_case p (doing d v) (inserting v)) ≡ n
-case_offers (occupied i) d v n e = doing_offers d v n e
+case_offers (occupied i) Refuse v n e = e
+case_offers (occupied i) Keep v n e = e
+case_offers (occupied i) Replace v n e = e
 case_offers vacant d v n e = e
 
-pub case_same : (p : Place) (a : Action) → on_case p a a ≡ a
-case_same (occupied i) a = refl
-case_same vacant a = refl
+pub case_vacant : (p : Place) (a b : Action) → p ≡ vacant → on_case p a b ≡ b
+case_vacant p a b q = rw q
 
--- check 1, passed
-pub use_known : (ws ds : List ℕ) (t : Table) (p : Place) → use_shape (lent ws ds t) p ≡ 0 → Shaped (size_in ds) ws ds × (below (size_in ds) p ≡ true)
-use_known ws ds t p e = go (is_shaped ws ds && leb t.live (size_in ds) && below (size_in ds) p) refl e
-  where
-    go : (b : Bool) → is_shaped ws ds && leb t.live (size_in ds) && below (size_in ds) p ≡ b → cond {A = ℕ} b 0 1 ≡ 0
-        → Shaped (size_in ds) ws ds × (below (size_in ds) p ≡ true)
-    go true q e = use_ready ws ds t.live p q
-    go false q e = absurd (omega arith)
+-- ---- an Occupied entry, by what its look answered
+
+module _ (ws ds : List ℕ) (t : Table) (e : Entry) (d : Doing) (v : ℕ) {m : Option ℕ} {n : ℕ} (k : m ≡ cond {A = Option ℕ} (is_shaped ws ds && leb t.live (size_in ds) && below (size_in ds) (place_of e.place)) (Some (size_in ds)) None) (s : m ≡ Some n)
+    (o : offered null v ≡ 0) (r : Result CellValue LookError) (w : Looks (hash_of t.hasher) ws (entry_in e) r) where
+  pub case_held : (cell : CellValue) → r ≡ Ok cell
+      → use_entry (lent ws ds t) (entry_in e) (on_case (place_of e.place) (doing d v) (inserting v)) ≡ used_at (lent ws ds t) cell.index cell.value (doing d v)
+  case_held cell q =
+      on_held ws ds t (entry_in e) _ k s (case_offers (place_of e.place) d v 0 o) r w cell q ∙ rw (looked_at (hash_of t.hasher) ws (entry_in e) r w cell q)
+
+  pub case_error : (i : ℕ) → place_of e.place ≡ occupied i → (x : LookError) → r ≡ Err x
+      → use_entry (lent ws ds t) (entry_in e) (on_case (place_of e.place) (doing d v) (inserting v)) ≡ leave (look_failed x) 0 (counts_of t.live)
+  case_error i p x q = on_error ws ds t (entry_in e) _ k s (case_offers (place_of e.place) d v 0 o) r w x q (λ z. absurd (occupied_not_vacant z))
+    where
+      occupied_not_vacant : place_of e.place ≡ vacant → ⊥
+      occupied_not_vacant z = cc

@@ -1,5 +1,5 @@
 -- How the answer of a call that inserts is read: each case by 01's number and values, with the entry that is handed back.
-use Rattle.std.specs.Prelude.{List, [], ◌∷◌, ℕ}
+use Rattle.std.specs.Prelude.{List, [], ◌∷◌, ℕ, Result, Ok, Err}
 use Rattle.rules.specs.Answers.{Said, found, new, replaced, revived, refused, Outcome}
 use Rattle.rules.specs.Entries as rule
 use Rattle.rules.specs.Entries.{entry_after}
@@ -8,19 +8,27 @@ use Rattle.cells.specs.declared.Table.{Table}
 use Rattle.entries.specs.Answers.{entry_in, left_as}
 use Rattle.entryinsert.specs.declared.vacant.EntryInsertSaid.{EntryInsertSaid}
 use Rattle.entryinsert.specs.declared.vacant.EntryInsertSaid.TheVariants as inserts
+use Rattle.entryinsert.specs.declared.vacant.EntryInsertError.{EntryInsertError}
+use Rattle.entryinsert.specs.declared.vacant.EntryInsertError.TheVariants as fails
 use Rattle.entryinsert.specs.declared.giving.EntryInsertAnswer.{EntryInsertAnswer}
 
-abbrev pub entry_insert_said : EntryInsertSaid → Said
-entry_insert_said inserts.New = new
-entry_insert_said (inserts.Replaced v) = replaced v
-entry_insert_said inserts.Revived = revived
-entry_insert_said (inserts.Found v) = found v
-entry_insert_said inserts.Shape = refused 1 []
-entry_insert_said inserts.ZeroHash = refused 2 []
-entry_insert_said inserts.Null = refused 3 []
-entry_insert_said (inserts.Full at) = refused 4 (at.position ∷ [])
-entry_insert_said inserts.Broken = refused 5 []
-entry_insert_said inserts.Stale = refused 7 []
+abbrev pub entry_put_said : EntryInsertSaid → Said
+entry_put_said inserts.New = new
+entry_put_said (inserts.Replaced v) = replaced v
+entry_put_said inserts.Revived = revived
+entry_put_said (inserts.Found v) = found v
+
+abbrev pub entry_insert_failed : EntryInsertError → Said
+entry_insert_failed fails.Shape = refused 1 []
+entry_insert_failed fails.ZeroHash = refused 2 []
+entry_insert_failed fails.Null = refused 3 []
+entry_insert_failed (fails.Full at) = refused 4 (at.position ∷ [])
+entry_insert_failed fails.Broken = refused 5 []
+entry_insert_failed fails.Stale = refused 7 []
+
+abbrev pub entry_insert_said : Result EntryInsertSaid EntryInsertError → Said
+entry_insert_said (Ok s) = entry_put_said s
+entry_insert_said (Err e) = entry_insert_failed e
 
 -- with the entry that is handed back
 pub record Handed : Type 0 where

@@ -15,7 +15,7 @@ use cells::Table;
 use entries::record::Entry;
 pub use giving::EntryInsertAnswer;
 use giving::{Doing, give};
-pub use vacant::EntryInsertSaid;
+pub use vacant::{EntryInsertError, EntryInsertSaid};
 
 // Inserts a value under the key of a Vacant entry, at fixed size. Refusals: 1, 3, 2, 7, then 4 or 5 from the insert's walk.
 pub fn insert(

@@ -1,29 +1,49 @@
 // Internal: the insert of a Vacant entry.
-ghost use Rattle.std.specs.Prelude.{true, ◌≡◌, ◌*◌, ◌≤◌, length};
+ghost use Rattle.std.specs.Prelude.{true, ◌≡◌, ◌*◌, ◌≤◌, [], length};
 ghost use Rattle.rules.specs.Sizes.{is_size};
 ghost use Rattle.rules.specs.Walk.{walk};
+ghost use Rattle.rules.specs.Answers.{refused};
 ghost use Rattle.rules.specs.Calls.{find_at, insert_stored};
 ghost use Rattle.steps.specs.Steps.{Ends};
 ghost use Rattle.cells.specs.Layout.{Shaped, null, view, value_in, counts_of};
-ghost use Rattle.cells.specs.Workers.{stop_of, insert_said, place_by, InsertedBy};
+ghost use Rattle.cells.specs.Workers.{stop_of, put_said, walk_failed, InsertedBy};
 ghost use Rattle.rules.specs.Entries.{is_found};
-ghost use Rattle.entries.specs.Answers.{place_of};
-ghost use Rattle.entryinsert.specs.Answers.{entry_insert_said};
-ghost use Rattle.entryinsert.specs.Workers.{put_in, placed_by, put_done};
+ghost use Rattle.entries.specs.Answers.{entry_in};
+ghost use Rattle.entries.specs.Workers.{look_failed};
+ghost use Rattle.entryinsert.specs.Answers.{entry_put_said, entry_insert_failed, insert_handed, handed_by};
+ghost use Rattle.entryinsert.specs.Workers.{put_in};
 
-use cells::insert::{FullAt, InsertSaid, Inserted, insert_home, insert_walked};
+use cells::insert::{FullAt, InsertSaid, Inserted, WalkError, insert_home, insert_walked};
 use cells::slices::{hash_at, value_at};
-use cells::walk::{Stop, walk_to};
-use cells::{Table, cell_of};
-use entries::record::{CellAt, Place};
+use cells::walk::{Stop, Walked, walk_to};
+use cells::{Cell, NullError, Table, cell_of};
+use entries::looking::LookError;
+use entries::record::{CellAt, Entry, Place};
 
-// What a call that inserts says. Found: the value that or_insert kept. Replaced: by insert_entry.
+// What a call that inserts says, where it is not refused. Found: the value that or_insert kept. Replaced: by insert_entry.
 #[derive(Clone, Copy)]
 pub enum EntryInsertSaid {
     New,
     Replaced(u64),
     Revived,
     Found(u64),
+}
+
+impl From<InsertSaid> for EntryInsertSaid {
+    ghost from_gives = { λ said r. entry_put_said r ≡ put_said said };
+
+    fn from(said: InsertSaid) -> EntryInsertSaid {
+        match said {
+            InsertSaid::New => EntryInsertSaid::New,
+            InsertSaid::Replaced(old) => EntryInsertSaid::Replaced(old),
+            InsertSaid::Revived => EntryInsertSaid::Revived,
+        }
+    }
+}
+
+// How a call that inserts is refused.
+#[derive(Clone, Copy, Debug, PartialEq, Eq)]
+pub enum EntryInsertError {
     // 1
     Shape,
     // 2
@@ -38,126 +58,93 @@ pub enum EntryInsertSaid {
     Stale,
 }
 
+impl From<LookError> for EntryInsertError {
+    ghost from_gives = { λ error r. entry_insert_failed r ≡ look_failed error };
+
+    fn from(error: LookError) -> EntryInsertError {
+        match error {
+            LookError::ZeroHash => EntryInsertError::ZeroHash,
+            LookError::Stale => EntryInsertError::Stale,
+        }
+    }
+}
+
+impl From<NullError> for EntryInsertError {
+    ghost from_gives = { λ _ r. entry_insert_failed r ≡ refused 3 [] };
+
+    fn from(_null: NullError) -> EntryInsertError {
+        EntryInsertError::Null
+    }
+}
+
+impl From<WalkError> for EntryInsertError {
+    ghost from_gives = { λ error r. entry_insert_failed r ≡ walk_failed error };
+
+    fn from(error: WalkError) -> EntryInsertError {
+        match error {
+            WalkError::Full(at) => EntryInsertError::Full(at),
+            WalkError::Broken => EntryInsertError::Broken,
+        }
+    }
+}
+
 // Whether a walk that stopped so finds a value.
+#[tactic(auto, using(cells::proofs::Shapes::cell_lt))]
 fn is_found(words: &[u64], size: usize, stop: Stop) -> bool
     requires { (is_size size ≡ true) × (3 * size ≤ length words.now) }
     ensures { result ≡ is_found (find_at size null (value_in words.now) (stop_of stop)) }
 {
     match stop {
         Stop::Met(at) => value_at(words, cell_of(at, size)) != Table::NULL,
-        Stop::Tail(_) => false,
-        Stop::Broken => false,
+        Stop::Tail(_) | Stop::Broken => false,
     }
 }
 
 // The insert, by a walk that was made already: an empty home is used at once, wherever the walk stopped.
+#[tactic(auto, using(cells::proofs::Shapes::in_words, steps::proofs::Sizes::size_greatest))]
 fn insert_after(
     words: &mut [u64],
     deltas: &mut [u8],
     size: usize,
     live: usize,
-    hash: u64,
-    key: u64,
-    value: u64,
-    stop: Stop,
-    looked: usize,
+    cell: Cell,
+    walked: Walked,
 ) -> Inserted
-    requires { Shaped size words.old deltas.old × Ends (stop_of stop) looked (walk size (view words.old deltas.old) hash key) }
-    ensures { InsertedBy result (insert_stored size null (view words.old deltas.old) (value_in words.old) (counts_of live) hash key value) words.old deltas.old words.new deltas.new }
+    requires { Shaped size words.old deltas.old × Ends (stop_of walked.stop) walked.looked (walk size (view words.old deltas.old) cell.hash cell.key) }
+    ensures { InsertedBy result (insert_stored size null (view words.old deltas.old) (value_in words.old) (counts_of live) cell.hash cell.key cell.value) words.old deltas.old words.new deltas.new }
 {
-    let home = cell_of(hash, size);
+    let home = cell_of(cell.hash, size);
     if hash_at(words, home) == 0 {
-        return insert_home(words, size, live, home, hash, key, value);
+        return insert_home(words, size, live, home, cell);
     }
-    insert_walked(words, deltas, size, live, hash, key, value, stop, looked)
+    insert_walked(words, deltas, size, live, cell, walked)
 }
 
-#[derive(Clone, Copy)]
-struct Told {
-    said: EntryInsertSaid,
-    place: Place,
-}
-
-// An insert's answer, and the place of its key: the cell that was changed, or Vacant still.
-fn tell(said: InsertSaid, index: usize) -> Told
-    ensures { (entry_insert_said result.said ≡ insert_said said) × (place_of result.place ≡ place_by index (insert_said said)) }
-{
-    let place = Place::Occupied(CellAt { index });
-    match said {
-        InsertSaid::New => Told {
-            said: EntryInsertSaid::New,
-            place,
-        },
-        InsertSaid::Replaced(old) => Told {
-            said: EntryInsertSaid::Replaced(old),
-            place,
-        },
-        InsertSaid::Revived => Told {
-            said: EntryInsertSaid::Revived,
-            place,
-        },
-        InsertSaid::Shape => Told {
-            said: EntryInsertSaid::Shape,
-            place: Place::Vacant,
-        },
-        InsertSaid::ZeroHash => Told {
-            said: EntryInsertSaid::ZeroHash,
-            place: Place::Vacant,
-        },
-        InsertSaid::Null => Told {
-            said: EntryInsertSaid::Null,
-            place: Place::Vacant,
-        },
-        InsertSaid::Full(at) => Told {
-            said: EntryInsertSaid::Full(at),
-            place: Place::Vacant,
-        },
-        InsertSaid::Broken => Told {
-            said: EntryInsertSaid::Broken,
-            place: Place::Vacant,
-        },
-    }
-}
-
-// What was done with a Vacant entry: the answer, the place of its key, and live.
-#[derive(Clone, Copy)]
-pub struct Putting {
-    pub said: EntryInsertSaid,
-    pub place: Place,
-    pub live: usize,
-}
-
-// Looks again: a key that has a value now is Stale. Else an insert, by the same walk.
+// Looks again: a key that has a value now is Stale. Else an insert, by the same walk, and the entry is Occupied, at the cell that
+// was changed.
 pub fn put(
     words: &mut [u64],
     deltas: &mut [u8],
     size: usize,
-    live: usize,
-    hash: u64,
-    key: u64,
+    table: &mut Table,
+    entry: &mut Entry,
     value: u64,
-) -> Putting
+) -> Result<EntryInsertSaid, EntryInsertError>
     requires { Shaped size words.old deltas.old }
-    ensures { put_done result words.new deltas.new ≡ placed_by (put_in size null (view words.old deltas.old) (value_in words.old) (counts_of live) hash key value) words.old deltas.old }
+    ensures { insert_handed (record { said = result; entry = entry.new; table = table.new }) words.new deltas.new ≡ handed_by (put_in size null (view words.old deltas.old) (value_in words.old) (counts_of table.old.live) entry.old.hash entry.old.key value) (entry_in entry.old) table.old words.old deltas.old }
 {
-    let walked = walk_to(words, deltas, size, hash, key);
-    let looked = walked.looked;
-    let stop = walked.stop;
-    if is_found(words, size, stop) {
-        return Putting {
-            said: EntryInsertSaid::Stale,
-            place: Place::Vacant,
-            live,
-        };
+    let walked = walk_to(words, deltas, size, entry.hash, entry.key);
+    if is_found(words, size, walked.stop) {
+        return Err(EntryInsertError::Stale);
     }
-    let done = insert_after(words, deltas, size, live, hash, key, value, stop, looked);
-    let answer = done.said;
-    let told = tell(answer, done.at);
-    let said = told.said;
-    let place = told.place;
-    Putting {
-        said,
-        place,
-        live: done.live,
-    }
+    let cell = Cell {
+        hash: entry.hash,
+        key: entry.key,
+        value,
+    };
+    let done = insert_after(words, deltas, size, table.live, cell, walked);
+    table.live = done.live;
+    let said = done.said?;
+    entry.place = Place::Occupied(CellAt { index: done.at });
+    Ok(said.into())
 }

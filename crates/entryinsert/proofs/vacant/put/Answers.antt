@@ -1,13 +1,16 @@
 -- `entryinsert::vacant::put` meets its contract. Assumes nothing.
 use mathlib.Core.Path.{sym, ◌∙◌}
-use Rattle.entryinsert.proofs.Placing.{put_stale, put_inserted}
+use Rattle.entryinsert.proofs.Handing.{passed_on}
+use Rattle.entryinsert.proofs.Placing.{put_stale, put_refused, put_inserted}
 use Rattle.entryinsert.proofs.vacant.put.Goals as goal
 
-pub is_found-requires : goal.is_found-requires
-is_found-requires c = (c.requires.size, c.requires.words)
-
 pub returns-then-is_found : goal.returns-then-is_found
-returns-then-is_found c = put_stale _ _ _ _ _ _ _ _ _ _ _ c.walk_to-walked.ensures (sym c.if-is_found.true ∙ c.is_found.ensures)
+returns-then-is_found c = put_stale _ _ _ _ _ _ _ _ _ _ _ _ c.walk_to-walked.ensures (sym c.if-is_found.true ∙ c.is_found.ensures)
+
+pub returns-in_err-said : goal.returns-in_err-said
+returns-in_err-said c =
+    put_refused _ _ _ _ c.args.table.now _ _ _ _ _ _ _ c.walk_to-walked.ensures (sym c.if-is_found.false ∙ c.is_found.ensures) c.insert_after-done.ensures _ c.in_err-said.was _ (passed_on c.from_residual.result _ c.from_residual.ensures.1)
 
 pub returns : goal.returns
-returns c = put_inserted _ _ _ _ _ _ _ _ _ _ _ c.walk_to-walked.ensures (sym c.if-is_found.false ∙ c.is_found.ensures) c.insert_after-done.result.at c.insert_after-done.ensures.cell c.insert_after-done.ensures.done _ _ c.tell-told.ensures.0 c.tell-told.ensures.1
+returns c =
+    put_inserted _ _ _ _ c.args.table.now _ _ _ _ _ _ _ c.walk_to-walked.ensures (sym c.if-is_found.false ∙ c.is_found.ensures) c.insert_after-done.ensures _ c.in_ok-said.was _ c.into.ensures
