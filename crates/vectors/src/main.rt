@@ -2,110 +2,97 @@
 // The file stdout beside src/ holds what is right; compare/vectors writes it anew without this code.
 #![tactic(auto)]
 
-use hashers::{Hasher, MurmurHasher, MurmurWrite};
+use hashers::{Hasher, MurmurHasher, Unwritten};
+use std::io;
 
-// Standard output.
-const STDOUT_FILENO: i32 = 1;
-
-fn show(name: &[u8], value: u64) {
-    io::write_all(STDOUT_FILENO, name);
-    io::write_all(STDOUT_FILENO, b" ");
-    io::print_hex(STDOUT_FILENO, value, 16);
-    io::write_all(STDOUT_FILENO, b"\n");
+// One line: a name, and a value in 16 hexadecimal digits.
+fn show(rt: &impl Print, name: &str, value: u64) -> io::Result<()> {
+    println!(rt; "{name} {value:016x}")
 }
 
-fn fnv() {
-    show(b"fnv ''", hashers::leapfrog_hash_fnv(b""));
-    show(b"fnv 'a'", hashers::leapfrog_hash_fnv(b"a"));
-    show(b"fnv 'b'", hashers::leapfrog_hash_fnv(b"b"));
-    show(b"fnv 'c'", hashers::leapfrog_hash_fnv(b"c"));
-    show(b"fnv 'd'", hashers::leapfrog_hash_fnv(b"d"));
-    show(b"fnv 'e'", hashers::leapfrog_hash_fnv(b"e"));
-    show(b"fnv 'f'", hashers::leapfrog_hash_fnv(b"f"));
-    show(b"fnv 'fo'", hashers::leapfrog_hash_fnv(b"fo"));
-    show(b"fnv 'foo'", hashers::leapfrog_hash_fnv(b"foo"));
-    show(b"fnv 'foob'", hashers::leapfrog_hash_fnv(b"foob"));
-    show(b"fnv 'fooba'", hashers::leapfrog_hash_fnv(b"fooba"));
-    show(b"fnv 'foobar'", hashers::leapfrog_hash_fnv(b"foobar"));
+fn fnv(rt: &impl Print) -> io::Result<()> {
+    let texts = [
+        "", "a", "b", "c", "d", "e", "f", "fo", "foo", "foob", "fooba", "foobar",
+    ];
+    for text in texts {
+        let hash = hashers::leapfrog_hash_fnv(text.as_bytes());
+        println!(rt; "fnv '{text}' {hash:016x}")?;
+    }
+    Ok(())
 }
 
-fn short() {
-    show(b"murmur ''", hashers::leapfrog_hash_murmur(b""));
-    show(b"murmur 'a'", hashers::leapfrog_hash_murmur(b"a"));
-    show(
-        b"murmur 'eight888'",
-        hashers::leapfrog_hash_murmur(b"eight888"),
-    );
-    show(
-        b"murmur 'nine99999'",
-        hashers::leapfrog_hash_murmur(b"nine99999"),
-    );
-    show(b"simple ''", hashers::leapfrog_hash_simple(b""));
-    show(b"simple 'a'", hashers::leapfrog_hash_simple(b"a"));
-    show(
-        b"simple 'eight888'",
-        hashers::leapfrog_hash_simple(b"eight888"),
-    );
-    show(
-        b"simple 'nine99999'",
-        hashers::leapfrog_hash_simple(b"nine99999"),
-    );
+// At most 8 bytes are taken: 9 are refused, which gives 0.
+fn short(rt: &impl Print) -> io::Result<()> {
+    let texts = ["", "a", "eight888", "nine99999"];
+    for text in texts {
+        let hash = hashers::leapfrog_hash_murmur(text.as_bytes());
+        println!(rt; "murmur '{text}' {hash:016x}")?;
+    }
+    for text in texts {
+        let hash = hashers::leapfrog_hash_simple(text.as_bytes());
+        println!(rt; "simple '{text}' {hash:016x}")?;
+    }
+    Ok(())
 }
 
-fn keys() {
-    show(b"murmur key 0", hashers::hash_of(Hasher::Murmur, 0));
-    show(b"murmur key 1", hashers::hash_of(Hasher::Murmur, 1));
-    show(b"murmur key 2", hashers::hash_of(Hasher::Murmur, 2));
-    show(
-        b"murmur key 2^64-1",
-        hashers::hash_of(Hasher::Murmur, 0xffff_ffff_ffff_ffff),
-    );
-    show(b"fnv key 0", hashers::hash_of(Hasher::Fnv, 0));
-    show(b"fnv key 1", hashers::hash_of(Hasher::Fnv, 1));
-    show(
-        b"fnv key 2^64-1",
-        hashers::hash_of(Hasher::Fnv, 0xffff_ffff_ffff_ffff),
-    );
-    show(
-        b"fnv key 3608874253b96bd5",
-        hashers::hash_of(Hasher::Fnv, 0x3608_8742_53b9_6bd5),
-    );
-    show(
-        b"simple key 2^64-1",
-        hashers::hash_of(Hasher::Simple, 0xffff_ffff_ffff_ffff),
-    );
+fn keys(rt: &impl Print) -> io::Result<()> {
+    let cases = [
+        ("murmur key 0", Hasher::Murmur, 0),
+        ("murmur key 1", Hasher::Murmur, 1),
+        ("murmur key 2", Hasher::Murmur, 2),
+        ("murmur key 2^64-1", Hasher::Murmur, u64::MAX),
+        ("fnv key 0", Hasher::Fnv, 0),
+        ("fnv key 1", Hasher::Fnv, 1),
+        ("fnv key 2^64-1", Hasher::Fnv, u64::MAX),
+        (
+            "fnv key 3608874253b96bd5",
+            Hasher::Fnv,
+            0x3608_8742_53b9_6bd5,
+        ),
+        ("simple key 2^64-1", Hasher::Simple, u64::MAX),
+    ];
+    for (name, hasher, key) in cases {
+        show(rt, name, hashers::hash_of(hasher, key))?;
+    }
+    Ok(())
 }
 
 // Two writes: the second replaces what the first left, and one that is refused leaves it.
-fn twice() {
-    let MurmurWrite::Written(one) = MurmurHasher::new().write(b"first") else {
-        return;
+fn twice(rt: &impl Print) -> io::Result<()> {
+    let Ok(one) = MurmurHasher::new().write(b"first") else {
+        return Ok(());
     };
     match one.write(b"a") {
-        MurmurWrite::Written(h) => show(b"murmur 'first' then 'a'", h.finish()),
-        MurmurWrite::Length(h) => show(b"refused", h.finish()),
+        Ok(h) => show(rt, "murmur 'first' then 'a'", h.finish())?,
+        Err(Unwritten(h)) => show(rt, "refused", h.finish())?,
     }
     match one.write(b"nine99999") {
-        MurmurWrite::Written(h) => show(b"taken", h.finish()),
-        MurmurWrite::Length(h) => show(b"murmur 'first' then 'nine99999', refused", h.finish()),
+        Ok(h) => show(rt, "taken", h.finish()),
+        Err(Unwritten(h)) => show(rt, "murmur 'first' then 'nine99999', refused", h.finish()),
     }
 }
 
-fn powers() {
-    show(b"round 0", util::round_to_pow2(0));
-    show(b"round 1", util::round_to_pow2(1));
-    show(b"round 2", util::round_to_pow2(2));
-    show(b"round 3", util::round_to_pow2(3));
-    show(b"round 129", util::round_to_pow2(129));
-    show(b"round 2^63-1", util::round_to_pow2(0x7fff_ffff_ffff_ffff));
-    show(b"round 2^63", util::round_to_pow2(0x8000_0000_0000_0000));
-    show(b"round 2^63+1", util::round_to_pow2(0x8000_0000_0000_0001));
+fn powers(rt: &impl Print) -> io::Result<()> {
+    let cases = [
+        ("round 0", 0),
+        ("round 1", 1),
+        ("round 2", 2),
+        ("round 3", 3),
+        ("round 129", 129),
+        ("round 2^63-1", 0x7fff_ffff_ffff_ffff),
+        ("round 2^63", 0x8000_0000_0000_0000),
+        ("round 2^63+1", 0x8000_0000_0000_0001),
+    ];
+    for (name, x) in cases {
+        show(rt, name, util::round_to_pow2(x))?;
+    }
+    Ok(())
 }
 
-fn main() {
-    fnv();
-    short();
-    keys();
-    twice();
-    powers();
+fn main(rt: HostRuntime) -> io::Result<()> {
+    fnv(&rt)?;
+    short(&rt)?;
+    keys(&rt)?;
+    twice(&rt)?;
+    powers(&rt)
 }

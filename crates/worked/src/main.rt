@@ -4,314 +4,277 @@
 #![tactic(auto)]
 
 use hashers::Hasher;
-use hashmap::{ClearSaid, FindSaid, InsertSaid, RemoveSaid, Table};
+use hashmap::{InsertAnswer, InsertError, InsertSaid, LookupError, RemoveAnswer, Table};
+use std::{fmt, io};
 
-// Standard output.
-const STDOUT_FILENO: i32 = 1;
+// What an insert says: its case, or the number of its refusal.
+#[derive(Clone, Copy)]
+struct Inserted(Result<InsertSaid, InsertError>);
 
-fn text(bytes: &[u8]) {
-    io::write_all(STDOUT_FILENO, bytes);
-}
-
-fn number(n: u64) {
-    io::print_decimal(STDOUT_FILENO, n);
-}
-
-fn after(looked: usize) {
-    text(b", looked ");
-    number(looked as u64);
-    text(b"\n");
-}
-
-fn say_inserted(said: InsertSaid) {
-    match said {
-        InsertSaid::New => text(b"New"),
-        InsertSaid::Replaced(old) => {
-            text(b"Replaced ");
-            number(old);
+impl fmt::Display for Inserted {
+    fn fmt<W: fmt::Write>(&self, f: &mut fmt::Formatter<W>) -> fmt::Result {
+        match self.0 {
+            Ok(InsertSaid::New) => f.write_str("New"),
+            Ok(InsertSaid::Replaced(old)) => write!(f, "Replaced {old}"),
+            Ok(InsertSaid::Revived) => f.write_str("Revived"),
+            Err(InsertError::Shape) => f.write_str("1"),
+            Err(InsertError::ZeroHash) => f.write_str("2"),
+            Err(InsertError::Null) => f.write_str("3"),
+            Err(InsertError::Full(at)) => write!(f, "Full {}", at.position),
+            Err(InsertError::Broken) => f.write_str("5"),
         }
-        InsertSaid::Revived => text(b"Revived"),
-        InsertSaid::Shape => text(b"1"),
-        InsertSaid::ZeroHash => text(b"2"),
-        InsertSaid::Null => text(b"3"),
-        InsertSaid::Full(at) => {
-            text(b"Full ");
-            number(at.position);
-        }
-        InsertSaid::Broken => text(b"5"),
     }
 }
 
-fn say_found(said: FindSaid) {
-    match said {
-        FindSaid::Found(value) => {
-            text(b"Found ");
-            number(value);
+// What a lookup or a remove says: the value behind this word, or the number of its refusal.
+#[derive(Clone, Copy)]
+struct Met(&'static str, Result<Option<u64>, LookupError>);
+
+impl fmt::Display for Met {
+    fn fmt<W: fmt::Write>(&self, f: &mut fmt::Formatter<W>) -> fmt::Result {
+        match self.1 {
+            Ok(Some(value)) => write!(f, "{} {value}", self.0),
+            Ok(None) => f.write_str("Absent"),
+            Err(LookupError::Shape) => f.write_str("1"),
+            Err(LookupError::ZeroHash) => f.write_str("2"),
+            Err(LookupError::Broken) => f.write_str("5"),
         }
-        FindSaid::Absent => text(b"Absent"),
-        FindSaid::Shape => text(b"1"),
-        FindSaid::ZeroHash => text(b"2"),
-        FindSaid::Broken => text(b"5"),
     }
 }
 
-fn say_removed(said: RemoveSaid) {
-    match said {
-        RemoveSaid::Removed(value) => {
-            text(b"Removed ");
-            number(value);
-        }
-        RemoveSaid::Absent => text(b"Absent"),
-        RemoveSaid::Shape => text(b"1"),
-        RemoveSaid::ZeroHash => text(b"2"),
-        RemoveSaid::Broken => text(b"5"),
-    }
+// For both slices as a Run lends them, though a remove writes the words alone.
+fn remove_from(words: &mut [u64], deltas: &mut [u8], table: Table, key: u64) -> RemoveAnswer {
+    hashmap::remove(words, deltas, table, key)
 }
 
-fn asked(call: &[u8], key: u64) {
-    text(call);
-    number(key);
-    text(b": ");
+// A table with the slices that it lies in. Its calls print what they are answered.
+#[derive(Drop)]
+struct Run<'a> {
+    words: &'a mut [u64],
+    deltas: &'a mut [u8],
+    table: Table,
 }
 
-fn insert(words: &mut [u64], deltas: &mut [u8], table: Table, key: u64, value: u64) -> Table {
-    let answer = hashmap::insert(words, deltas, table, key, value);
-    asked(b"insert ", key);
-    let said = answer.said;
-    say_inserted(said);
-    after(answer.looked);
-    answer.table
-}
-
-fn find(words: &[u64], deltas: &[u8], table: Table, key: u64) {
-    let answer = hashmap::find(words, deltas, table, key);
-    asked(b"find ", key);
-    let said = answer.said;
-    say_found(said);
-    after(answer.looked);
-}
-
-fn remove(words: &mut [u64], deltas: &[u8], table: Table, key: u64) -> Table {
-    let answer = hashmap::remove(words, deltas, table, key);
-    asked(b"remove ", key);
-    let said = answer.said;
-    say_removed(said);
-    after(answer.looked);
-    answer.table
-}
-
-// Inserts pairs of a key and its value.
-fn inserts(words: &mut [u64], deltas: &mut [u8], table: Table, pairs: &[u64]) -> Table {
-    let mut t = table;
-    for i in 0..pairs.len() / 2 {
-        t = insert(words, deltas, t, pairs[2 * i], pairs[2 * i + 1]);
-    }
-    t
-}
-
-// A fresh table; for slices of a wrong length a record that every call refuses.
-fn fresh(words: &mut [u64], deltas: &mut [u8]) -> Table {
-    match hashmap::clear(words, deltas, Hasher::Simple) {
-        ClearSaid::Cleared(table) => table,
-        ClearSaid::Shape => Table {
-            hasher: Hasher::Simple,
+impl<'a> Run<'a> {
+    // A fresh table; for slices of a wrong length a record that every call refuses.
+    fn fresh(words: &'a mut [u64], deltas: &'a mut [u8]) -> Run<'a> {
+        let hasher = Hasher::Simple;
+        let table = hashmap::clear(words, deltas, hasher).unwrap_or(Table {
+            hasher,
             live: 65537,
-        },
-    }
-}
-
-fn live(table: Table) {
-    text(b"live ");
-    number(hashreads::len(table) as u64);
-    text(b"\n");
-}
-
-// The keys of the cells in order.
-fn show_keys(words: &[u64]) {
-    text(b"keys");
-    for i in 0..words.len() {
-        if i % 3 == 1 {
-            text(b" ");
-            number(words[i]);
+        });
+        Run {
+            words,
+            deltas,
+            table,
         }
     }
-    text(b"\n");
-}
 
-fn wide(x: u8) -> u64 {
-    x as u64
-}
-
-fn show_deltas(deltas: &[u8]) {
-    text(b"deltas");
-    for i in 0..deltas.len() {
-        text(b" ");
-        number(wide(deltas[i]));
+    // Inserts, and prints nothing.
+    fn put(&mut self, key: u64, value: u64) -> InsertAnswer {
+        let answer = hashmap::insert(self.words, self.deltas, self.table, key, value);
+        self.table = answer.table;
+        answer
     }
-    text(b"\n");
+
+    fn insert(&mut self, rt: &impl Print, key: u64, value: u64) -> io::Result<()> {
+        let answer = self.put(key, value);
+        println!(rt;
+            "insert {key}: {}, looked {}",
+            Inserted(answer.said),
+            answer.looked
+        )
+    }
+
+    fn find(&self, rt: &impl Print, key: u64) -> io::Result<()> {
+        let answer = hashmap::find(self.words, self.deltas, self.table, key);
+        println!(rt;
+            "find {key}: {}, looked {}",
+            Met("Found", answer.said),
+            answer.looked
+        )
+    }
+
+    fn remove(&mut self, rt: &impl Print, key: u64) -> io::Result<()> {
+        let answer = remove_from(self.words, self.deltas, self.table, key);
+        self.table = answer.table;
+        println!(rt;
+            "remove {key}: {}, looked {}",
+            Met("Removed", answer.said),
+            answer.looked
+        )
+    }
+
+    // Inserts keys with their values.
+    fn inserts(&mut self, rt: &impl Print, pairs: &[(u64, u64)]) -> io::Result<()> {
+        for &(key, value) in pairs {
+            self.insert(rt, key, value)?;
+        }
+        Ok(())
+    }
+
+    // Inserts 2+256j for so many j, and prints nothing.
+    fn fill(&mut self, count: u8) {
+        for j in 0..count {
+            let j = u64::from(j);
+            self.put(2 + 256 * j, j);
+        }
+    }
+
+    fn show_live(&self, rt: &impl Print) -> io::Result<()> {
+        println!(rt; "live {}", hashreads::len(self.table))
+    }
+
+    // The keys of the cells in order.
+    fn show_keys(&self, rt: &impl Print) -> io::Result<()> {
+        print!(rt; "keys")?;
+        for [_, key, _] in self.words.as_chunks::<3>().0 {
+            print!(rt; " {key}")?;
+        }
+        println!(rt; "")
+    }
+
+    fn show_deltas(&self, rt: &impl Print) -> io::Result<()> {
+        print!(rt; "deltas")?;
+        for delta in self.deltas.iter() {
+            print!(rt; " {delta}")?;
+        }
+        println!(rt; "")
+    }
+
+    fn show_all(&self, rt: &impl Print) -> io::Result<()> {
+        self.show_keys(rt)?;
+        self.show_deltas(rt)?;
+        self.show_live(rt)
+    }
 }
 
-fn one_and_two(words: &mut [u64], deltas: &mut [u8]) {
-    text(b"example 1\n");
-    let t = fresh(words, deltas);
-    let t = inserts(words, deltas, t, &[8, 80, 16, 160, 24, 240, 1, 10]);
-    show_keys(words);
-    show_deltas(deltas);
-    text(b"example 2\n");
-    find(words, deltas, t, 1);
+fn one_and_two(rt: &impl Print, words: &mut [u64], deltas: &mut [u8]) -> io::Result<()> {
+    println!(rt; "example 1")?;
+    let mut run = Run::fresh(words, deltas);
+    run.inserts(rt, &[(8, 80), (16, 160), (24, 240), (1, 10)])?;
+    run.show_keys(rt)?;
+    run.show_deltas(rt)?;
+    println!(rt; "example 2")?;
+    run.find(rt, 1)
 }
 
 // The keys 1 to 8, each in its home, then two that find no room.
-fn three_and_four(words: &mut [u64], deltas: &mut [u8]) {
-    text(b"example 3\n");
-    let t = fresh(words, deltas);
-    let t = inserts(
-        words,
-        deltas,
-        t,
-        &[
-            1, 10, 2, 20, 3, 30, 4, 40, 5, 50, 6, 60, 7, 70, 8, 80, 9, 90,
-        ],
-    );
-    text(b"example 4\n");
-    let t = insert(words, deltas, t, 0xffff_ffff_ffff_ffff, 7);
-    live(t);
-}
-
-fn five(words: &mut [u64], deltas: &mut [u8]) {
-    text(b"example 5\n");
-    let t = fresh(words, deltas);
-    let t = inserts(
-        words,
-        deltas,
-        t,
-        &[0xffff_ffff_ffff_ffff, 1, 0xffff_ffff_ffff_fff7, 2],
-    );
-    show_keys(words);
-    show_deltas(deltas);
-    live(t);
-}
-
-fn six(words: &mut [u64], deltas: &mut [u8]) -> Table {
-    text(b"example 6\n");
-    let t = fresh(words, deltas);
-    let t = insert(words, deltas, t, 5, 50);
-    let t = remove(words, deltas, t, 5);
-    let t = insert(words, deltas, t, 5, 51);
-    live(t);
-    t
-}
-
-fn seven(words: &mut [u64], deltas: &mut [u8], table: Table) {
-    text(b"example 7\n");
-    let t = inserts(
-        words,
-        deltas,
-        table,
-        &[0, 1, 6, 0xffff_ffff_ffff_fffe, 6, 0xffff_ffff_ffff_ffff],
-    );
-    find(words, deltas, t, 6);
-}
-
-// 2+256j for so many j.
-fn fill(words: &mut [u64], deltas: &mut [u8], table: Table, count: u64) -> Table {
-    let mut t = table;
-    for j in 0..count {
-        let next = hashmap::insert(words, deltas, t, 2 + 256 * (j % 128), j);
-        t = next.table;
+fn three_and_four(rt: &impl Print, words: &mut [u64], deltas: &mut [u8]) -> io::Result<()> {
+    println!(rt; "example 3")?;
+    let mut run = Run::fresh(words, deltas);
+    for key in 1..10 {
+        run.insert(rt, key, 10 * key)?;
     }
-    t
+    println!(rt; "example 4")?;
+    run.insert(rt, u64::MAX, 7)?;
+    run.show_live(rt)
+}
+
+// Positions wrap at 2^64.
+fn five(rt: &impl Print, words: &mut [u64], deltas: &mut [u8]) -> io::Result<()> {
+    println!(rt; "example 5")?;
+    let mut run = Run::fresh(words, deltas);
+    run.inserts(rt, &[(u64::MAX, 1), (u64::MAX - 8, 2)])?;
+    run.show_all(rt)
+}
+
+// A removed key comes back; then a key of hash 0, the null value, and the value after it.
+fn six_and_seven(rt: &impl Print, words: &mut [u64], deltas: &mut [u8]) -> io::Result<()> {
+    println!(rt; "example 6")?;
+    let mut run = Run::fresh(words, deltas);
+    run.insert(rt, 5, 50)?;
+    run.remove(rt, 5)?;
+    run.insert(rt, 5, 51)?;
+    run.show_live(rt)?;
+    println!(rt; "example 7")?;
+    run.inserts(rt, &[(0, 1), (6, Table::NULL), (6, u64::MAX)])?;
+    run.find(rt, 6)
 }
 
 // 1, then 2+256j for so many j, then 257.
-fn crowded(words: &mut [u64], deltas: &mut [u8], count: u64) {
-    let start = fresh(words, deltas);
-    let first = hashmap::insert(words, deltas, start, 1, 1);
-    let one = first.table;
-    let t = fill(words, deltas, one, count);
-    last(words, deltas, t);
-}
-
-fn last(words: &mut [u64], deltas: &mut [u8], table: Table) {
-    let t = insert(words, deltas, table, 257, 3);
-    live(t);
-    if 1 < deltas.len() {
-        text(b"first delta of cell 1: ");
-        number(wide(deltas[1]));
-        text(b"\n");
+fn crowded(rt: &impl Print, words: &mut [u64], deltas: &mut [u8], count: u8) -> io::Result<()> {
+    let mut run = Run::fresh(words, deltas);
+    run.put(1, 1);
+    run.fill(count);
+    run.insert(rt, 257, 3)?;
+    run.show_live(rt)?;
+    if let Some(first) = run.deltas.get(1) {
+        println!(rt; "first delta of cell 1: {first}")?;
     }
+    Ok(())
 }
 
-fn lookups(words: &[u64], deltas: &[u8], table: Table) {
-    show_keys(words);
-    show_deltas(deltas);
-    live(table);
-    find(words, deltas, table, 8);
-    find(words, deltas, table, 16);
-    find(words, deltas, table, 1);
+// The same requests in two orders, with the order on each key kept: the pairs before the key 16 is taken out, and those after.
+fn in_order(
+    rt: &impl Print,
+    words: &mut [u64],
+    deltas: &mut [u8],
+    before: &[(u64, u64)],
+    after: &[(u64, u64)],
+) -> io::Result<()> {
+    let mut run = Run::fresh(words, deltas);
+    run.inserts(rt, before)?;
+    run.remove(rt, 16)?;
+    run.inserts(rt, after)?;
+    run.show_all(rt)?;
+    for key in [8, 16, 1] {
+        run.find(rt, key)?;
+    }
+    Ok(())
 }
 
-// Takes the key 16 out, and inserts pairs.
-fn after_remove(words: &mut [u64], deltas: &mut [u8], table: Table, pairs: &[u64]) {
-    let t = remove(words, deltas, table, 16);
-    let t = inserts(words, deltas, t, pairs);
-    lookups(words, deltas, t);
-}
-
-// The keys 8 and 1, and 16 put in, taken out and put in again.
-fn one_order(words: &mut [u64], deltas: &mut [u8]) {
-    text(b"any order, S = 8\none order\n");
-    let t = fresh(words, deltas);
-    let t = inserts(words, deltas, t, &[8, 80, 16, 160, 1, 10]);
-    after_remove(words, deltas, t, &[16, 161]);
-}
-
-// The same requests in another order, with the order on each key kept.
-fn another_order(words: &mut [u64], deltas: &mut [u8]) {
-    text(b"another order\n");
-    let t = fresh(words, deltas);
-    let t = inserts(words, deltas, t, &[1, 10, 16, 160]);
-    after_remove(words, deltas, t, &[8, 80, 16, 161]);
+fn any_order(rt: &impl Print, words: &mut [u64], deltas: &mut [u8]) -> io::Result<()> {
+    println!(rt; "any order, S = 8\none order")?;
+    in_order(
+        rt,
+        words,
+        deltas,
+        &[(8, 80), (16, 160), (1, 10)],
+        &[(16, 161)],
+    )?;
+    println!(rt; "another order")?;
+    in_order(
+        rt,
+        words,
+        deltas,
+        &[(1, 10), (16, 160)],
+        &[(8, 80), (16, 161)],
+    )
 }
 
 // Example 10's keys with 257 second: none is Full. Above 128 cells, then, Full may appear in one order only.
-fn early(words: &mut [u64], deltas: &mut [u8]) {
-    text(b"any order, S = 256: example 10's keys, 257 second\n");
-    let t = fresh(words, deltas);
-    let t = inserts(words, deltas, t, &[1, 1, 257, 3]);
-    let t = fill(words, deltas, t, 128);
-    live(t);
-}
-
-fn six_and_seven(words: &mut [u64], deltas: &mut [u8]) {
-    let t = six(words, deltas);
-    seven(words, deltas, t);
+fn early(rt: &impl Print, words: &mut [u64], deltas: &mut [u8]) -> io::Result<()> {
+    println!(rt; "any order, S = 256: example 10's keys, 257 second")?;
+    let mut run = Run::fresh(words, deltas);
+    run.inserts(rt, &[(1, 1), (257, 3)])?;
+    run.fill(128);
+    run.show_live(rt)
 }
 
 // Tables of 8 cells.
-fn small(words: &mut [u64], deltas: &mut [u8]) {
-    one_and_two(words, deltas);
-    three_and_four(words, deltas);
-    five(words, deltas);
-    six_and_seven(words, deltas);
-    one_order(words, deltas);
-    another_order(words, deltas);
+fn small(rt: &impl Print) -> io::Result<()> {
+    let mut words = [0; 24];
+    let mut deltas = [0; 16];
+    one_and_two(rt, &mut words, &mut deltas)?;
+    three_and_four(rt, &mut words, &mut deltas)?;
+    five(rt, &mut words, &mut deltas)?;
+    six_and_seven(rt, &mut words, &mut deltas)?;
+    any_order(rt, &mut words, &mut deltas)
 }
 
 // Tables of 256 cells.
-fn large(words: &mut [u64], deltas: &mut [u8]) {
-    text(b"example 9\n");
-    crowded(words, deltas, 127);
-    text(b"example 10\n");
-    crowded(words, deltas, 128);
-    early(words, deltas);
+fn large(rt: &impl Print) -> io::Result<()> {
+    let mut words = [0; 768];
+    let mut deltas = [0; 512];
+    println!(rt; "example 9")?;
+    crowded(rt, &mut words, &mut deltas, 127)?;
+    println!(rt; "example 10")?;
+    crowded(rt, &mut words, &mut deltas, 128)?;
+    early(rt, &mut words, &mut deltas)
 }
 
-fn main() {
-    let mut words = [0u64; 24];
-    let mut deltas = [0u8; 16];
-    small(&mut words, &mut deltas);
-    let mut words = [0u64; 768];
-    let mut deltas = [0u8; 512];
-    large(&mut words, &mut deltas);
+fn main(rt: HostRuntime) -> io::Result<()> {
+    small(&rt)?;
+    large(&rt)
 }
