@@ -4,5 +4,5 @@ use Rattle.cells.specs.Layout.{second_at}
 use Rattle.cells.proofs.Shapes.{deltas_hold}
 use Rattle.checker.specs.declared.Cells.{Cells}
 
-pub delta_there : (c : Cells) (i : ℕ) → i < c.size → second_at i < length c.deltas.now
-delta_there c i h = deltas_hold c.size c.deltas.now i c.shaped.size c.shaped.deltas h
+pub delta_there : (c : Cells) (i : ℕ) → i < c.lent.size → second_at i < length c.lent.deltas.now
+delta_there c i h = deltas_hold c.lent.size c.lent.deltas.now i c.lent.shaped.size c.lent.shaped.deltas h

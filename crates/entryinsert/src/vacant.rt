@@ -15,7 +15,7 @@ ghost use Rattle.entryinsert.specs.Workers.{put_in};
 
 use cells::insert::{FullAt, InsertSaid, Inserted, WalkError, insert_home, insert_walked};
 use cells::slices::{hash_at, value_at};
-use cells::walk::{Stop, Walked, walk_to};
+use cells::walk::{Stop, View, Walked};
 use cells::{Cell, NullError, Table, cell_of};
 use entries::looking::LookError;
 use entries::record::{CellAt, Entry, Place};
@@ -133,7 +133,12 @@ pub fn put(
     requires { Shaped size words.old deltas.old }
     ensures { insert_handed (record { said = result; entry = entry.new; table = table.new }) words.new deltas.new ≡ handed_by (put_in size null (view words.old deltas.old) (value_in words.old) (counts_of table.old.live) entry.old.hash entry.old.key value) (entry_in entry.old) table.old words.old deltas.old }
 {
-    let walked = walk_to(words, deltas, size, entry.hash, entry.key);
+    let view = View {
+        words,
+        deltas,
+        size,
+    };
+    let walked = view.walk_to(entry.hash, entry.key);
     if is_found(words, size, walked.stop) {
         return Err(EntryInsertError::Stale);
     }

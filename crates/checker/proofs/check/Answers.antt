@@ -11,8 +11,8 @@ returns-in_default c =
     let l = lent c.args.words.now c.args.deltas.now c.args.table in
     check_shape l (shape_fails l (unsized _ _ c.in_default.ensures))
 
-pub invariant_of-cells : goal.invariant_of-cells
-invariant_of-cells c = record { shaped = (sized_shape _ _ _ c.in-Some.ensures).0 }
+pub invariant_of-lent : goal.invariant_of-lent
+invariant_of-lent c = record { shaped = (sized_shape _ _ _ c.in-Some.ensures).0 }
 
 pub returns-then-is_sound : goal.returns-then-is_sound
 returns-then-is_sound c =

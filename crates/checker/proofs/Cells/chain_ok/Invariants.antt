@@ -6,6 +6,6 @@ use Rattle.checker.proofs.Cells.chain_ok.Given as goal
 
 abbrev pub invariant-loop-link : goal.invariant-loop-link
 invariant-loop-link l =
-    let S = l.self.size in
-    let cs = view l.self.words.now l.self.deltas.now in
-    chain_test S cs l.home (S - 1) l.home (get_or l.self.deltas.now (first_at l.home) 0) ≡ chain_test S cs l.home (S - l._link) (l.at % S) l.delta
+    let S = l.self.lent.size in
+    let cs = view l.self.lent.words.now l.self.lent.deltas.now in
+    chain_test S cs l.home (S - 1) l.home (get_or l.self.lent.deltas.now (first_at l.home) 0) ≡ chain_test S cs l.home (S - l._link) (l.at % S) l.delta

@@ -15,8 +15,8 @@ returns-then-not-cell_ok c = sound_fails _ _ _ (counts_of c.args.live) _ c.loop-
 pub loop-i-preserved : goal.loop-i-preserved
 loop-i-preserved c =
     let s = c.args.self.now in
-    let x : c.from-seen.result ≡ one (live_in s.words.now c.loop-i.i) = c.from-seen.ensures ∙ bit_counts _ ∙ ap one c.is_live.ensures in (
-      omega (arith, x, one_most (is_live (params_of s.size s.hasher) (view s.words.now s.deltas.now) (value_in s.words.now)) (live_in s.words.now c.loop-i.i)),
+    let x : c.from-seen.result ≡ one (live_in s.lent.words.now c.loop-i.i) = c.from-seen.ensures ∙ bit_counts _ ∙ ap one c.is_live.ensures in (
+      omega (arith, x, one_most (is_live (params_of s.lent.size s.hasher) (view s.lent.words.now s.lent.deltas.now) (value_in s.lent.words.now)) (live_in s.lent.words.now c.loop-i.i)),
       all_more _ _ c.loop-i.invariant.1 (sym c.cell_ok.ensures ∙ c.if-not-cell_ok.false),
       count_more _ _ _ _ c.loop-i.invariant.2 x,
     )
@@ -24,5 +24,5 @@ loop-i-preserved c =
 pub returns : goal.returns
 returns c =
     let s = c.args.self.now in
-    let end : c.loop-i.i ≡ s.size = omega arith in
-    sound_counts (params_of s.size s.hasher) (view s.words.now s.deltas.now) (value_in s.words.now) (counts_of c.args.live) _ _ end c.loop-i.invariant.1 c.loop-i.invariant.2
+    let end : c.loop-i.i ≡ s.lent.size = omega arith in
+    sound_counts (params_of s.lent.size s.hasher) (view s.lent.words.now s.lent.deltas.now) (value_in s.lent.words.now) (counts_of c.args.live) _ _ end c.loop-i.invariant.1 c.loop-i.invariant.2

@@ -8,7 +8,7 @@ use Rattle.checker.proofs.Cells.is_sound.Given as goal
 
 abbrev pub invariant-loop-i : goal.invariant-loop-i
 invariant-loop-i l =
-    let p = params_of l.self.size l.self.hasher in
-    let cs = view l.self.words.now l.self.deltas.now in
-    let values = value_in l.self.words.now in
+    let p = params_of l.self.lent.size l.self.hasher in
+    let cs = view l.self.lent.words.now l.self.lent.deltas.now in
+    let values = value_in l.self.lent.words.now in
     (l.seen ≤ l.i) × (all (cell_test p cs values) l.i ≡ true) × (l.seen ≡ count (is_live p cs values) l.i)

@@ -9,7 +9,7 @@ pub returns-in-Met : goal.returns-in-Met
 returns-in-Met c = ap (λ (j : ℕ). eqb j c.args.i) c.cell_of.ensures ∙ stops_so _ _ _ _ _ c.walk_to.ensures c.hash_at-hash.ensures c.key_at-key.ensures _ (ap stop_of c.in-Met.is)
 
 pub returns-in-Tail : goal.returns-in-Tail
-returns-in-Tail c = stops_so _ (view c.args.self.now.words.now c.args.self.now.deltas.now) _ _ _ c.walk_to.ensures c.hash_at-hash.ensures c.key_at-key.ensures _ (ap stop_of c.in-Tail.is)
+returns-in-Tail c = stops_so _ (view c.args.self.now.lent.words.now c.args.self.now.lent.deltas.now) _ _ _ c.walk_to.ensures c.hash_at-hash.ensures c.key_at-key.ensures _ (ap stop_of c.in-Tail.is)
 
 pub returns-in-Broken : goal.returns-in-Broken
-returns-in-Broken c = stops_so _ (view c.args.self.now.words.now c.args.self.now.deltas.now) _ _ _ c.walk_to.ensures c.hash_at-hash.ensures c.key_at-key.ensures _ (ap stop_of c.in-Broken.is)
+returns-in-Broken c = stops_so _ (view c.args.self.now.lent.words.now c.args.self.now.lent.deltas.now) _ _ _ c.walk_to.ensures c.hash_at-hash.ensures c.key_at-key.ensures _ (ap stop_of c.in-Broken.is)
