@@ -3,6 +3,7 @@ use mathlib.Core.Bool.{true, false, ◌&&◌}
 use mathlib.Core.List.{List, []}
 use mathlib.Core.Path.{◌≡◌, refl, sym, ap, ◌∙◌}
 use Prim.Native.Nat.{ℕ}
+use Rattle.std.specs.Prelude.{Err}
 use borrow.Author.Tests.{eq-eqb, ne_eqb}
 use Rattle.hashers.specs.Keys.{hash_of}
 use Rattle.hashers.specs.declared.Hasher.{Hasher}
@@ -18,9 +19,9 @@ use Rattle.parts.specs.declared.Half.TheVariants.{Lower, Upper}
 use Rattle.parts.specs.declared.Growing.{Growing}
 use Rattle.parts.proofs.Checks.{Halves, Fits, passed, shape_passes, shape_fails}
 use Rattle.growth.specs.Rounds.{Sides}
-use Rattle.growth.specs.Growth.{Grown, grow_said, grew_from, rounds_on, grown_by, grow_left}
-use Rattle.growth.specs.declared.GrowSaid.{GrowSaid}
-use Rattle.growth.specs.declared.GrowSaid.TheVariants as says
+use Rattle.growth.specs.Growth.{GrownLeft, grow_failed, grew_from, rounds_on, grown_by, grow_left}
+use Rattle.growth.specs.declared.GrowError.{GrowError}
+use Rattle.growth.specs.declared.GrowError.TheVariants as errors
 
 -- ---- the rule's branches
 
@@ -78,12 +79,12 @@ module _ (lws lds uws uds : List ℕ) (g : Growing) (k v : ℕ) where
           }
 
   -- a refusal leaves all
-  refusal : (n : ℕ) (s : GrowSaid) → grow_said s ≡ refused n []
-      → grown_by (record { said = s; looked = 0; moves = 0; growing = g }) lws lds uws uds ≡ grow_left (refused_at (start lent_now) n 0 (stays [])) g lws lds uws uds
+  refusal : (n : ℕ) (s : GrowError) → grow_failed s ≡ refused n []
+      → grown_by (record { said = Err s; looked = 0; moves = 0; growing = g }) lws lds uws uds ≡ grow_left (refused_at (start lent_now) n 0 (stays [])) g lws lds uws uds
   unfolding grew_from
   refusal n s e = go g.half refl
     where
-      go : (h : Half) → g.half ≡ h → grown_by (record { said = s; looked = 0; moves = 0; growing = g }) lws lds uws uds ≡ grow_left (refused_at (start lent_now) n 0 (stays [])) g lws lds uws uds
+      go : (h : Half) → g.half ≡ h → grown_by (record { said = Err s; looked = 0; moves = 0; growing = g }) lws lds uws uds ≡ grow_left (refused_at (start lent_now) n 0 (stays [])) g lws lds uws uds
       go Lower q =
           rw q
           (λ i. record {
@@ -121,31 +122,32 @@ module _ (lws lds uws uds : List ℕ) (g : Growing) (k v : ℕ) where
             hasher = g.table.hasher;
           })
 
-  abbrev Refused : GrowSaid → Type 0
-  Refused s = grown_by (record { said = s; looked = 0; moves = 0; growing = g }) lws lds uws uds ≡ grow_left (grow lent_now k v) g lws lds uws uds
+  abbrev Refused : GrowError → Type 0
+  Refused s = grown_by (record { said = Err s; looked = 0; moves = 0; growing = g }) lws lds uws uds ≡ grow_left (grow lent_now k v) g lws lds uws uds
 
   pub refused_1 : are_halves lws lds uws uds && record_fits (size_in lds) g ≡ false
-      → grown_by (record { said = says.Shape; looked = 0; moves = 0; growing = g }) lws lds uws uds ≡ grow_left (grow (lent_halves lws lds uws uds g) k v) g lws lds uws uds
-  refused_1 e = refusal 1 says.Shape refl ∙ sym (ap (λ (o : GrowOutcome). grow_left o g lws lds uws uds) (grow_1 lent_now k v (shape_fails lws lds uws uds g e)))
+      → grown_by (record { said = Err errors.Shape; looked = 0; moves = 0; growing = g }) lws lds uws uds ≡ grow_left (grow (lent_halves lws lds uws uds g) k v) g lws lds uws uds
+  refused_1 e = refusal 1 errors.Shape refl ∙ sym (ap (λ (o : GrowOutcome). grow_left o g lws lds uws uds) (grow_1 lent_now k v (shape_fails lws lds uws uds g e)))
 
   module _ (e : are_halves lws lds uws uds && record_fits (size_in lds) g ≡ true) where
     pub refused_3 : offered null v ≡ 3
-        → grown_by (record { said = says.Null; looked = 0; moves = 0; growing = g }) lws lds uws uds ≡ grow_left (grow (lent_halves lws lds uws uds g) k v) g lws lds uws uds
-    refused_3 b = refusal 3 says.Null refl ∙ sym (ap (λ (o : GrowOutcome). grow_left o g lws lds uws uds) (grow_3 lent_now k v (shape_passes lws lds uws uds g e) b))
+        → grown_by (record { said = Err errors.Null; looked = 0; moves = 0; growing = g }) lws lds uws uds ≡ grow_left (grow (lent_halves lws lds uws uds g) k v) g lws lds uws uds
+    refused_3 b = refusal 3 errors.Null refl ∙ sym (ap (λ (o : GrowOutcome). grow_left o g lws lds uws uds) (grow_3 lent_now k v (shape_passes lws lds uws uds g e) b))
 
     module _ (b : offered null v ≡ 0) (h : ℕ) (q : h ≡ hash_of g.table.hasher k) where
       pub refused_2 : h ≡ 0
-          → grown_by (record { said = says.ZeroHash; looked = 0; moves = 0; growing = g }) lws lds uws uds ≡ grow_left (grow (lent_halves lws lds uws uds g) k v) g lws lds uws uds
+          → grown_by (record { said = Err errors.ZeroHash; looked = 0; moves = 0; growing = g }) lws lds uws uds ≡ grow_left (grow (lent_halves lws lds uws uds g) k v) g lws lds uws uds
       refused_2 z =
           let y : zero_hash (hash_of g.table.hasher k) ≡ 2 = rw (eq-eqb (hash_of g.table.hasher k) 0 (sym q ∙ z)) in
-          refusal 2 says.ZeroHash refl ∙ sym (ap (λ (o : GrowOutcome). grow_left o g lws lds uws uds) (grow_2 lent_now k v (shape_passes lws lds uws uds g e) b y))
+          refusal 2 errors.ZeroHash refl ∙ sym (ap (λ (o : GrowOutcome). grow_left o g lws lds uws uds) (grow_2 lent_now k v (shape_passes lws lds uws uds g e) b y))
 
       -- past the checks the rounds decide
-      pub grows : (h ≡ 0 → ⊥) → (r : Grown)
-          → ((hasher : Hasher) → r ≡ grew_from (size_in lds) (rounds_on (size_in lds) hasher g.size (half_of g.half) g.table.live h k v lws lds uws uds) lws lds uws uds)
-          → record { grown = r; hasher = g.table.hasher } ≡ grow_left (grow (lent_halves lws lds uws uds g) k v) g lws lds uws uds
+      pub grows : (h ≡ 0 → ⊥) → (r : GrownLeft)
+          → ((hasher : Hasher) → r ≡ record { grown = grew_from (size_in lds) (rounds_on (size_in lds) hasher g.size (half_of g.half) g.table.live h k v lws lds uws uds) lws lds uws uds; hasher = g.table.hasher })
+          → r ≡ grow_left (grow (lent_halves lws lds uws uds g) k v) g lws lds uws uds
       unfolding rounds_on
       grows z r x =
           let y : zero_hash (hash_of g.table.hasher k) ≡ 0 = rw (ne_eqb (hash_of g.table.hasher k) 0 (λ u. z (q ∙ u))) in
-          (λ i. record { grown = (x g.table.hasher ∙ ap (λ (n : ℕ). grew_from (size_in lds) (rounds_on (size_in lds) g.table.hasher g.size (half_of g.half) g.table.live n k v lws lds uws uds) lws lds uws uds) q) i; hasher = g.table.hasher })
+          x g.table.hasher
+          ∙ ap (λ (n : ℕ). record { grown = grew_from (size_in lds) (rounds_on (size_in lds) g.table.hasher g.size (half_of g.half) g.table.live n k v lws lds uws uds) lws lds uws uds; hasher = g.table.hasher }) q
           ∙ sym (ap (λ (o : GrowOutcome). grow_left o g lws lds uws uds) (grow_past lent_now k v (shape_passes lws lds uws uds g e) b y))

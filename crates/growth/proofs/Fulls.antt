@@ -4,6 +4,7 @@ use mathlib.Core.List.{List, [], ◌∷◌}
 use mathlib.Core.Path.{◌≡◌, refl, sym, ap, ◌∙◌}
 use Prim.Native.Nat.{ℕ, ◌≤◌}
 use native.Mathlib.Omega.{arith}
+use Rattle.std.specs.Prelude.{Result, Ok, Err}
 use Rattle.hashers.specs.declared.Hasher.{Hasher}
 use Rattle.hashers.specs.declared.Hasher.TheVariants.{Simple}
 use Rattle.rules.specs.Sizes.{is_size}
@@ -13,19 +14,21 @@ use Rattle.rules.specs.Growth.{sampled, sample, first_size}
 use Rattle.rules.specs.Moves.{stays}
 use Rattle.rules.specs.Growing.{tries, sizes, is_full, carried_by}
 use Rattle.cells.specs.Layout.{null, view, value_in, params_of, counts_of, fresh_words, fresh_deltas, words_after, deltas_after, Done, done_by}
-use Rattle.cells.specs.Workers.{insert_said, insert_done}
+use Rattle.cells.specs.Workers.{put_said, worker_said, insert_done}
 use Rattle.cells.specs.declared.insert.FullAt.{FullAt}
 use Rattle.cells.specs.declared.insert.Inserted.{Inserted}
 use Rattle.cells.specs.declared.insert.InsertSaid.{InsertSaid}
 use Rattle.cells.specs.declared.insert.InsertSaid.TheVariants as says
+use Rattle.cells.specs.declared.insert.WalkError.{WalkError}
+use Rattle.cells.specs.declared.insert.WalkError.TheVariants as fails
 use Rattle.moving.specs.Slices.{held_in, clear_held}
 use Rattle.laws.proofs.Refusals.{stored_refused_leaves}
 use Rattle.sizing.proofs.Samples.{sample_most}
 use Rattle.sizing.proofs.Sizes.{first_size_power}
 use Rattle.growth.specs.Rounds as turns
-use Rattle.growth.specs.Rounds.{Power, tried_on, tried_by, TurnedOn, turn_tried, full_on, turn_on}
-use Rattle.growth.specs.declared.Tried.{Tried}
-use Rattle.growth.specs.declared.Tried.TheVariants as tried
+use Rattle.growth.specs.Rounds.{Power, tried_to, tried_on, tried_by, tried_end, TurnedOn, turn_tried, full_on, turn_on}
+use Rattle.growth.specs.declared.TryError.{TryError}
+use Rattle.growth.specs.declared.TryError.TheVariants as errors
 
 -- ---- after Full
 
@@ -39,7 +42,7 @@ module _ (cells size live looked position : ℕ) (ws ds sws sds : List ℕ) (n f
   pub first_power : is_size size ≡ true → Power first
   first_power z = let p = first_size_power size n z sample_fits in record { log = p.0; is = f ∙ p.1; least = p.2 }
 
-  module _ (r : Tried) (sw sd : List ℕ)
+  module _ (r : Result ℕ TryError) (sw sd : List ℕ)
       (e : (xs : List ℕ) → tried_by r sw sd ≡ tried_on cells (tries cells null size (held_in ws xs) (counts_of live) (clear_held cells) sizes first (stays [])) sws sds) where
     tried_on_lem : (hasher : Hasher) → turn_tried cells looked live ws ds (tried_by r sw sd) ≡ full_on cells hasher size live looked position ws ds sws sds
     unfolding full_on
@@ -60,28 +63,28 @@ module _ (cells size live looked position : ℕ) (ws ds sws sds : List ℕ) (n f
           spare_deltas = sd;
         }
 
-    pub full_to : (T : ℕ) → r ≡ tried.To T → (w d : List ℕ) → w ≡ fresh_words cells → d ≡ fresh_deltas cells
+    pub full_to : (T : ℕ) → r ≡ Ok T → (w d : List ℕ) → w ≡ fresh_words cells → d ≡ fresh_deltas cells
         → (hasher : Hasher) → After (turns.moved T) w d ≡ full_on cells hasher size live looked position ws ds sws sds
     full_to T q w d a b hasher =
-        (λ i. After (turns.moved T) (a i) (b i)) ∙ sym (ap (λ (x : Tried). turn_tried cells looked live ws ds (tried_by x sw sd)) q) ∙ tried_on_lem hasher
+        (λ i. After (turns.moved T) (a i) (b i)) ∙ sym (ap (λ (x : Result ℕ TryError). turn_tried cells looked live ws ds (tried_by x sw sd)) q) ∙ tried_on_lem hasher
 
-    pub full_no_room : r ≡ tried.NoRoom → (hasher : Hasher) → After turns.no_room ws ds ≡ full_on cells hasher size live looked position ws ds sws sds
-    full_no_room q hasher = sym (ap (λ (x : Tried). turn_tried cells looked live ws ds (tried_by x sw sd)) q) ∙ tried_on_lem hasher
-
-    pub full_broken : r ≡ tried.Broken → (hasher : Hasher) → After turns.broken ws ds ≡ full_on cells hasher size live looked position ws ds sws sds
-    full_broken q hasher = sym (ap (λ (x : Tried). turn_tried cells looked live ws ds (tried_by x sw sd)) q) ∙ tried_on_lem hasher
+    -- no size was enough, or a try was Broken: the half in use stays
+    pub full_refused : (x : TryError) → r ≡ Err x → (end : turns.TurnEnd) → end ≡ tried_end (tried_to (Err x))
+        → (hasher : Hasher) → After end ws ds ≡ full_on cells hasher size live looked position ws ds sws sds
+    full_refused x q end y hasher =
+        ap (λ (z : turns.TurnEnd). After z ws ds) y ∙ left x ∙ sym (ap (λ (z : Result ℕ TryError). turn_tried cells looked live ws ds (tried_by z sw sd)) q) ∙ tried_on_lem hasher
+      where
+        left : (x : TryError) → After (tried_end (tried_to (Err x))) ws ds ≡ turn_tried cells looked live ws ds (tried_by (Err x) sw sd)
+        left errors.NoRoom = refl
+        left errors.Broken = refl
 
 -- ---- a round
 
-not_full : (s : InsertSaid) → ((at : FullAt) → s ≡ says.Full at → ⊥) → is_full (insert_said s) ≡ false
-not_full says.New n = refl
-not_full (says.Replaced old) n = refl
-not_full says.Revived n = refl
-not_full says.Shape n = refl
-not_full says.ZeroHash n = refl
-not_full says.Null n = refl
-not_full (says.Full at) n = absurd (n at refl)
-not_full says.Broken n = refl
+-- an answer other than Full
+pub put_not_full : (s : InsertSaid) → is_full (put_said s) ≡ false
+put_not_full says.New = refl
+put_not_full (says.Replaced old) = refl
+put_not_full says.Revived = refl
 
 module _ (cells size live h k v : ℕ) (ws ds sws sds : List ℕ) (r : Inserted) (w d : List ℕ)
     (e : insert_done r w d ≡ done_by (insert_stored size null (view ws ds) (value_in ws) (counts_of live) h k v) ws ds) where
@@ -93,13 +96,13 @@ module _ (cells size live h k v : ℕ) (ws ds sws sds : List ℕ) (r : Inserted)
   unfolding done_by
   done = e
 
-  said_is : insert_said r.said ≡ here.said
+  said_is : worker_said r.said ≡ here.said
   said_is = ap (λ (x : Done). x.said) done
 
   -- an answer that is not Full ends the round
-  pub round_answered : ((at : FullAt) → r.said ≡ says.Full at → ⊥) → (hasher : Hasher)
+  pub round_answered : (x : Result InsertSaid WalkError) → r.said ≡ x → is_full (worker_said x) ≡ false → (hasher : Hasher)
       → record {
-        end = turns.answered (insert_said r.said);
+        end = turns.answered (worker_said x);
         looked = r.looked;
         counts = counts_of r.live;
         words = w;
@@ -109,11 +112,12 @@ module _ (cells size live h k v : ℕ) (ws ds sws sds : List ℕ) (r : Inserted)
       }
       ≡ turn_on cells hasher size live h k v ws ds sws sds
   unfolding turn_on
-  round_answered n hasher =
-      let f : is_full here.said ≡ false = ap is_full (sym said_is) ∙ not_full r.said n in
+  round_answered x q n hasher =
+      let y : worker_said x ≡ here.said = sym (ap worker_said q) ∙ said_is in
+      let f : is_full here.said ≡ false = ap is_full (sym y) ∙ n in
       rw f
       (λ i. record {
-        end = turns.answered (done i).said;
+        end = turns.answered (y i);
         looked = (done i).looked;
         counts = (done i).counts;
         words = (done i).words;
@@ -122,9 +126,9 @@ module _ (cells size live h k v : ℕ) (ws ds sws sds : List ℕ) (r : Inserted)
         spare_deltas = sds;
       })
 
-  module _ (at : FullAt) (q : r.said ≡ says.Full at) where
+  module _ (at : FullAt) (q : r.said ≡ Err (fails.Full at)) where
     says_full : here.said ≡ refused 4 (at.position ∷ [])
-    says_full = sym said_is ∙ ap insert_said q
+    says_full = sym said_is ∙ ap worker_said q
 
     no_change : (x : Change) → here.change ≡ x → words_after here.change ws ≡ words_after x ws
     no_change x y = ap (λ (c : Change). words_after c ws) y

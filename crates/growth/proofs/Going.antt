@@ -26,12 +26,11 @@ use Rattle.growthlaws.specs.Rounds.{Enough}
 use Rattle.growthlaws.proofs.Rounds.{enough_next, move_sized}
 use Rattle.growth.specs.Rounds as turns
 use Rattle.growth.specs.Rounds.{Halved, Sides, TurnedOn}
-use Rattle.growth.specs.Ends.{turn_said}
 use Rattle.growth.specs.Growth.{Grown, lower_of, upper_of, grew_from}
 use Rattle.growth.proofs.Turns.{round_at, rounds_from, inserted, first}
 use Rattle.movelaws.proofs.Moved.{moved_live}
 use Rattle.movelaws.proofs.Fresh.{fresh_clear}
-use Rattle.growth.proofs.Still.{Ends}
+use Rattle.growth.proofs.Still.{Ends, turn_said}
 
 -- so many moves before
 abbrev pub moved_on : ℕ → Grown → Grown

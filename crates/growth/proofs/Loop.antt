@@ -3,19 +3,20 @@ use mathlib.Core.Bool.{true}
 use mathlib.Core.List.{List}
 use mathlib.Core.Path.{◌≡◌, refl, sym, ap, subst, ◌∙◌}
 use Prim.Native.Nat.{ℕ, ◌+◌, ◌<◌}
+use Rattle.std.specs.Prelude.{Result}
 use lib.ListN.{length}
 use Rattle.hashers.specs.declared.Hasher.{Hasher}
 use Rattle.hashers.specs.declared.Hasher.TheVariants.{Simple}
 use Rattle.rules.specs.Sizes.{is_size}
-use Rattle.rules.specs.Answers.{Said}
 use Rattle.rules.specs.Growing as rule
 use Rattle.rules.specs.Growing.{other_half, most_rounds}
-use Rattle.growth.specs.Rounds.{Sides, TurnedOn, turn_sides, round_end}
-use Rattle.growth.specs.Ends.{Still, turn_said}
-use Rattle.growth.specs.Growth.{grew_from, rounds_on}
+use Rattle.growth.specs.Rounds.{Sides, TurnedOn, answered, turn_sides, round_end}
+use Rattle.growth.specs.Growth.{grow_said, grew_from, rounds_on}
+use Rattle.cells.specs.declared.insert.InsertSaid.{InsertSaid}
+use Rattle.growth.specs.declared.GrowError.{GrowError}
 use Rattle.growth.specs.declared.RoundEnd.{RoundEnd}
 use Rattle.growth.specs.declared.RoundEnd.TheVariants as ends
-use Rattle.growth.proofs.Still.{Moves}
+use Rattle.growth.proofs.Still.{Moves, turn_said}
 use Rattle.growth.proofs.Going.{Going}
 use Rattle.growth.proofs.Sides.{begin, one_left, finish, onward}
 
@@ -32,12 +33,6 @@ pub record Turning (cells h k v live size₀ : ℕ) (half₀ : rule.Half) (lws�
 pub cells_sized : (half : rule.Half) (lws lds uws uds : List ℕ) (cells size : ℕ) → Sides half lws lds uws uds cells size → is_size cells ≡ true
 cells_sized rule.lower lws lds uws uds cells size q = q.cells_size
 cells_sized rule.upper lws lds uws uds cells size q = q.cells_size
-
-not_moved : (r : RoundEnd) → ((T : ℕ) → r ≡ ends.Moved T → ⊥) → Moves (round_end r) → ⊥
-not_moved (ends.Answered s) n m = m
-not_moved (ends.Moved T) n m = n T refl
-not_moved ends.NoRoom n m = m
-not_moved ends.Broken n m = m
 
 module _ (cells h k v live size₀ : ℕ) (half₀ : rule.Half) (lws₀ lds₀ uws₀ uds₀ : List ℕ) where
   pub turning : Sides half₀ lws₀ lds₀ uws₀ uds₀ cells size₀ → Turning cells h k v live size₀ half₀ lws₀ lds₀ uws₀ uds₀ half₀ size₀ 0 lws₀ lds₀ uws₀ uds₀
@@ -62,19 +57,10 @@ module _ (cells h k v live size₀ : ℕ) (half₀ : rule.Half) (lws₀ lds₀ u
     few = one_left cells Simple h k v live (whole Simple) lws₀ lds₀ uws₀ uds₀ size count lws lds uws uds half (t.going Simple)
 
     module _ (x : TurnedOn) (r : RoundEnd) (same_end : x.end ≡ round_end r) (e : (hasher : Hasher) → x ≡ turn_sides half cells hasher size live h k v lws lds uws uds) where
-      no_move : ((T : ℕ) → r ≡ ends.Moved T → ⊥) → Moves x.end → ⊥
-      no_move n m = not_moved r n (subst Moves same_end m)
-
-      -- a round that does not move has an answer for the call
-      pub still : ((T : ℕ) → r ≡ ends.Moved T → ⊥) → Still (round_end r)
-      still n =
-          subst Still same_end
-          (finish cells Simple h k v live (whole Simple) lws₀ lds₀ uws₀ uds₀ size count lws lds uws uds half (t.going Simple) x (e Simple) (no_move n)).0
-
-      -- and ends it
-      pub stops : ((T : ℕ) → r ≡ ends.Moved T → ⊥) → (s : Said) → s ≡ turn_said (round_end r) → (hasher : Hasher)
+      -- a round that does not move ends the call with its answer
+      pub stops : (s : Result InsertSaid GrowError) → r ≡ ends.Answered s → (hasher : Hasher)
           → record {
-            said = s;
+            said = grow_said s;
             looked = x.looked;
             moves = count;
             counts = x.counts;
@@ -86,10 +72,10 @@ module _ (cells h k v live size₀ : ℕ) (half₀ : rule.Half) (lws₀ lds₀ u
             upper_deltas = x.spare_deltas;
           }
           ≡ grew_from cells (rounds_on cells hasher size₀ half₀ live h k v lws₀ lds₀ uws₀ uds₀) lws₀ lds₀ uws₀ uds₀
-      stops n s q hasher =
-          let w : s ≡ turn_said x.end = q ∙ ap turn_said (sym same_end) in
+      stops s q hasher =
+          let w : answered (grow_said s) ≡ x.end = sym (same_end ∙ ap round_end q) in
           (λ i. record {
-            said = w i;
+            said = turn_said (w i);
             looked = x.looked;
             moves = count;
             counts = x.counts;
@@ -100,7 +86,7 @@ module _ (cells h k v live size₀ : ℕ) (half₀ : rule.Half) (lws₀ lds₀ u
             upper_words = x.spare_words;
             upper_deltas = x.spare_deltas;
           })
-          ∙ (finish cells hasher h k v live (whole hasher) lws₀ lds₀ uws₀ uds₀ size count lws lds uws uds half (t.going hasher) x (e hasher) (no_move n)).1
+          ∙ finish cells hasher h k v live (whole hasher) lws₀ lds₀ uws₀ uds₀ size count lws lds uws uds half (t.going hasher) x (e hasher) (λ m. subst Moves (sym w) m)
 
       -- a move is followed by another round
       pub goes_on : (T : ℕ) → r ≡ ends.Moved T → length x.words ≡ length lws → length x.deltas ≡ length lds → length x.spare_words ≡ length uws

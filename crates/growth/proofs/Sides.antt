@@ -18,7 +18,6 @@ use Rattle.growthlaws.specs.Rounds.{Enough}
 use Rattle.growthlaws.proofs.Rounds.{enough_one, start_enough}
 use Rattle.growth.specs.Rounds as turns
 use Rattle.growth.specs.Rounds.{Halved, Sides, TurnEnd, TurnedOn, turn_on, turn_sides}
-use Rattle.growth.specs.Ends.{Still}
 use Rattle.growth.specs.Growth.{Grown, grew_from, rounds_on}
 use Rattle.growth.proofs.Turns.{round_at, rounds_from, TurnWay, answers, untried, all_full, breaks, moves, turn_way}
 use Rattle.growth.proofs.Still.{Moves, ends}
@@ -28,8 +27,6 @@ use Rattle.growth.proofs.Going.{moved_on, Going, Final, final_lower, final_upper
 abbrev size_of : TurnEnd → ℕ
 size_of (turns.moved T) = T
 size_of (turns.answered s) = 0
-size_of turns.no_room = 0
-size_of turns.broken = 0
 
 module _ (cells : ℕ) (hasher : Hasher) (h k v live : ℕ) (whole : GrowOutcome) (lws₀ lds₀ uws₀ uds₀ : List ℕ) where
   abbrev GoingAt : rule.Half → (size count : ℕ) → (lws lds uws uds : List ℕ) → Type 0
@@ -55,14 +52,14 @@ module _ (cells : ℕ) (hasher : Hasher) (h k v live : ℕ) (whole : GrowOutcome
 
     -- a round that does not move ends the call
     pub finish : (half : rule.Half) → GoingAt half size count lws lds uws uds → (x : TurnedOn) → x ≡ turn_sides half cells hasher size live h k v lws lds uws uds
-        → (Moves x.end → ⊥) → Still x.end × (Final cells lws₀ lds₀ uws₀ uds₀ count size half x ≡ grew_from cells whole lws₀ lds₀ uws₀ uds₀)
+        → (Moves x.end → ⊥) → Final cells lws₀ lds₀ uws₀ uds₀ count size half x ≡ grew_from cells whole lws₀ lds₀ uws₀ uds₀
     finish rule.lower g x e n =
         let q = g.sides in
         let w = turn_way cells hasher h k v size live lws lds uws uds (one rule.lower g).0 rule.lower g.used g.spare q.cells_size in
         let d =
         ends cells hasher h k v size live lws lds uws uds (one rule.lower g).0 rule.lower g.used g.spare lws₀ lds₀ uws₀ uds₀
         g.lower_words_become g.lower_deltas_become g.upper_words_become g.upper_deltas_become x _ (rw (sym e) at w) n in
-        (d.still, final_lower cells lws₀ lds₀ uws₀ uds₀ count size x _ d ∙ sym (after rule.lower g))
+        final_lower cells lws₀ lds₀ uws₀ uds₀ count size x _ d ∙ sym (after rule.lower g)
     finish rule.upper g x e n =
         let q = g.sides in
         let y = turn_on cells hasher size live h k v uws uds lws lds in
@@ -70,7 +67,7 @@ module _ (cells : ℕ) (hasher : Hasher) (h k v live : ℕ) (whole : GrowOutcome
         let d =
         ends cells hasher h k v size live uws uds lws lds (one rule.upper g).0 rule.upper g.used g.spare uws₀ uds₀ lws₀ lds₀
         g.upper_words_become g.upper_deltas_become g.lower_words_become g.lower_deltas_become y _ w (rw e at n) in
-        (rw e d.still, ap (Final cells lws₀ lds₀ uws₀ uds₀ count size rule.upper) e ∙ final_upper cells lws₀ lds₀ uws₀ uds₀ count size y _ d ∙ sym (after rule.upper g))
+        ap (Final cells lws₀ lds₀ uws₀ uds₀ count size rule.upper) e ∙ final_upper cells lws₀ lds₀ uws₀ uds₀ count size y _ d ∙ sym (after rule.upper g)
 
     -- one move more
     counted : (T : ℕ) (y : GrowOutcome) → moved_on count (grew_from cells (with_move T y) lws₀ lds₀ uws₀ uds₀) ≡ moved_on (count + 1) (grew_from cells y lws₀ lds₀ uws₀ uds₀)

@@ -3,7 +3,7 @@ use mathlib.Core.List.{List, [], ◌∷◌, ◌++◌}
 use mathlib.Core.Path.{◌≡◌, refl, sym, ap, ◌∙◌}
 use Prim.Native.Nat.{ℕ}
 use Rattle.hashers.specs.declared.Hasher.{Hasher}
-use Rattle.rules.specs.Answers.{Change}
+use Rattle.rules.specs.Answers.{Said, refused, Change}
 use Rattle.rules.specs.Moves.{Became, stays, cleared}
 use Rattle.rules.specs.Growing as rule
 use Rattle.rules.specs.Growing.{GrowOutcome, and_then}
@@ -11,7 +11,6 @@ use Rattle.cells.specs.Layout.{words_after, deltas_after, fresh_words, fresh_del
 use Rattle.moving.specs.Slices.{words_after_all, deltas_after_all, words_become, deltas_become}
 use Rattle.growth.specs.Rounds as turns
 use Rattle.growth.specs.Rounds.{TurnEnd, TurnedOn}
-use Rattle.growth.specs.Ends.{Still, turn_said}
 use Rattle.growth.proofs.Turns.{round_at, inserted, TurnWay, answers, untried, all_full, breaks, moves}
 
 -- ---- one change more
@@ -37,12 +36,14 @@ deltas_then cells (cleared l) c ds = deltas_last l c (fresh_deltas cells)
 abbrev pub Moves : TurnEnd → Type 0
 Moves (turns.moved T) = Unit
 Moves (turns.answered s) = ⊥
-Moves turns.no_room = ⊥
-Moves turns.broken = ⊥
+
+-- what such a round says of the call; nothing is said of a round that moved
+abbrev pub turn_said : TurnEnd → Said
+turn_said (turns.answered s) = s
+turn_said (turns.moved T) = refused 6 []
 
 -- the rules' outcome, from a round's end: the half in use and the spare one, which were W, D and SW, SD at the start of the call
 pub record Ends (cells size : ℕ) (half : rule.Half) (W D SW SD : List ℕ) (x : TurnedOn) (g : GrowOutcome) : Type 0 where
-  pub still : Still x.end
   pub said : turn_said x.end ≡ g.said
   pub looked : x.looked ≡ g.looked
   pub counts : x.counts ≡ g.counts
@@ -65,7 +66,6 @@ module _ (cells : ℕ) (hasher : Hasher) (h k v size live : ℕ) (ws ds sws sds 
   ends x g (answers e a b) n =
       rw (a, b)
       (record {
-        still = e;
         said = refl;
         looked = refl;
         counts = refl;
@@ -80,7 +80,6 @@ module _ (cells : ℕ) (hasher : Hasher) (h k v size live : ℕ) (ws ds sws sds 
   ends x g (untried a b) n =
       rw (a, b)
       (record {
-        still = tt;
         said = refl;
         looked = refl;
         counts = refl;
@@ -95,7 +94,6 @@ module _ (cells : ℕ) (hasher : Hasher) (h k v size live : ℕ) (ws ds sws sds 
   ends x g (all_full a b) n =
       rw (a, b)
       (record {
-        still = tt;
         said = refl;
         looked = refl;
         counts = refl;
@@ -110,7 +108,6 @@ module _ (cells : ℕ) (hasher : Hasher) (h k v size live : ℕ) (ws ds sws sds 
   ends x g (breaks a b) n =
       rw (a, b)
       (record {
-        still = tt;
         said = refl;
         looked = refl;
         counts = refl;

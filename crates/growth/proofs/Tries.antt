@@ -6,6 +6,7 @@ use Prim.Native.Nat.{ℕ, zero, suc, ◌*◌, ◌^◌, ◌≤◌, ◌<◌}
 use native.Mathlib.Nat.{mul_comm, pow-suc}
 use native.Mathlib.Omega.{arith}
 use borrow.Author.Tests.{le-leb}
+use Rattle.std.specs.Prelude.{Result, Ok, Err}
 use lib.ListN.{length}
 use lib.Pow.{pow_mono}
 use Rattle.rules.specs.Sizes.{least_log, is_size}
@@ -15,10 +16,10 @@ use Rattle.rules.specs.Growing.{Tries, tries, sizes}
 use Rattle.steps.proofs.Sizes.{size_greatest}
 use Rattle.cells.specs.Layout.{null, counts_of, fresh_words, fresh_deltas}
 use Rattle.cells.specs.declared.insert.FullAt.{FullAt}
+use Rattle.cells.specs.declared.insert.WalkError.{WalkError}
+use Rattle.cells.specs.declared.insert.WalkError.TheVariants.{Full, Broken}
 use Rattle.moving.specs.Slices.{held_in, clear_held, words_after_all, deltas_after_all}
 use Rattle.moving.specs.Ends.{Into, into_by, end_of}
-use Rattle.moving.specs.declared.MoveEnd.{MoveEnd}
-use Rattle.moving.specs.declared.MoveEnd.TheVariants.{All, Full, Broken}
 use Rattle.growthlaws.proofs.Sizes.{power_size}
 use Rattle.growthlaws.proofs.Tries.{tries_above, tries_all, tries_full, tries_broken, sizes_enough, one_left}
 use Rattle.growth.specs.Rounds.{Power, TriedOn, to, no_room, broken, tried_on}
@@ -113,13 +114,13 @@ module _ (cells S live : ℕ) (fws : List ℕ) (first : ℕ) (ws₀ ds₀ : List
     next fds = t.same fds ∙ ap (λ (n : ℕ). tries_from cells S (held_in fws fds) (counts_of live) n T (cleared [])) some.1
 
     -- what a move into the spare half left
-    abbrev Left : MoveEnd → List ℕ → Type 0
+    abbrev Left : Result ℕ WalkError → List ℕ → Type 0
     Left r fds =
         record { ended = end_of r; words = w; deltas = d }
         ≡ into_by cells (move_end (move_to cells S (held_in fws fds) (counts_of live) T) (move_to cells S (held_in fws fds) (counts_of live) T).ended) ws ds
 
     -- all went over
-    pub all_over : (r : MoveEnd) (total : ℕ) → r ≡ All total → ((fds : List ℕ) → Left r fds)
+    pub all_over : (r : Result ℕ WalkError) (total : ℕ) → r ≡ Ok total → ((fds : List ℕ) → Left r fds)
         → (fds ow od : List ℕ) → record { end = to T; words = w; deltas = d } ≡ tried_on cells (tries_from cells S (held_in fws fds) (counts_of live) sizes first (cleared [])) ow od
     all_over r total a e fds ow od =
         let m = move_to cells S (held_in fws fds) (counts_of live) T in
@@ -128,7 +129,7 @@ module _ (cells S live : ℕ) (fws : List ℕ) (first : ℕ) (ws₀ ds₀ : List
         (λ j. record { end = to T; words = i.1 j; deltas = i.2 j }) ∙ sym (ap (λ (x : Tries). tried_on cells x ow od) q)
 
     -- Broken
-    pub broke : (r : MoveEnd) → r ≡ Broken → ((fds : List ℕ) → Left r fds)
+    pub broke : (r : Result ℕ WalkError) → r ≡ Err Broken → ((fds : List ℕ) → Left r fds)
         → (fds ow od : List ℕ) → record { end = broken; words = w; deltas = d } ≡ tried_on cells (tries_from cells S (held_in fws fds) (counts_of live) sizes first (cleared [])) ow od
     broke r a e fds ow od =
         let m = move_to cells S (held_in fws fds) (counts_of live) T in
@@ -137,7 +138,7 @@ module _ (cells S live : ℕ) (fws : List ℕ) (first : ℕ) (ws₀ ds₀ : List
         (λ j. record { end = broken; words = i.1 j; deltas = i.2 j }) ∙ sym (ap (λ (x : Tries). tried_on cells x ow od) q)
 
     -- Full: the next size
-    pub again : (r : MoveEnd) (at : FullAt) → r ≡ Full at → ((fds : List ℕ) → Left r fds) → length w ≡ length ws → length d ≡ length ds → (T' : ℕ) → T' ≡ 2 * T → Trying cells S live fws first T' ws₀ ds₀ w d
+    pub again : (r : Result ℕ WalkError) (at : FullAt) → r ≡ Err (Full at) → ((fds : List ℕ) → Left r fds) → length w ≡ length ws → length d ≡ length ds → (T' : ℕ) → T' ≡ 2 * T → Trying cells S live fws first T' ws₀ ds₀ w d
     again r at f e lw ld T' a =
         let n = some in
         let x = into_stop cells (move_to cells S (held_in fws []) (counts_of live) T) ws ds w d 4 (at.position ∷ []) (rw f at (e [])) in

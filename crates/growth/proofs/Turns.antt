@@ -8,7 +8,7 @@ use Rattle.hashers.specs.Keys.{hash_of}
 use Rattle.hashers.specs.declared.Hasher.{Hasher}
 use Rattle.rules.specs.Sizes.{is_size}
 use Rattle.rules.specs.Cells.{Counts}
-use Rattle.rules.specs.Answers.{Change, Outcome}
+use Rattle.rules.specs.Answers.{refused, Change, Outcome}
 use Rattle.rules.specs.Calls.{insert_stored}
 use Rattle.rules.specs.Growth.{sample, first_size}
 use Rattle.rules.specs.Moves.{Became, stays, cleared}
@@ -68,9 +68,9 @@ module _ (cells : ℕ) (hasher : Hasher) (h k v : ℕ) where
     -- how a round ends on the slices, and what the rules' round gives
     pub data TurnWay (sws sds : List ℕ) (left : ℕ) (r : Round) (x : TurnedOn) (g : GrowOutcome) : Type 0 where
       answers : is_full inserted.said ≡ false → x ≡ answered_on inserted ws ds sws sds → g ≡ answered r inserted → TurnWay sws sds left r x g
-      untried : x ≡ ended turns.no_room ws ds sws sds → g ≡ refused_at r 6 inserted.looked r.spare → TurnWay sws sds left r x g
-      all_full : x ≡ ended turns.no_room ws ds (fresh_words cells) (fresh_deltas cells) → g ≡ refused_at r 6 inserted.looked (cleared []) → TurnWay sws sds left r x g
-      breaks : x ≡ ended turns.broken ws ds (fresh_words cells) (fresh_deltas cells) → g ≡ refused_at r 5 inserted.looked (cleared []) → TurnWay sws sds left r x g
+      untried : x ≡ ended (turns.answered (refused 6 [])) ws ds sws sds → g ≡ refused_at r 6 inserted.looked r.spare → TurnWay sws sds left r x g
+      all_full : x ≡ ended (turns.answered (refused 6 [])) ws ds (fresh_words cells) (fresh_deltas cells) → g ≡ refused_at r 6 inserted.looked (cleared []) → TurnWay sws sds left r x g
+      breaks : x ≡ ended (turns.answered (refused 5 [])) ws ds (fresh_words cells) (fresh_deltas cells) → g ≡ refused_at r 5 inserted.looked (cleared []) → TurnWay sws sds left r x g
       moves : IsFull inserted.said → (T : ℕ) (c : Counts) (fills : List Change) → Into T c fills
           → x ≡ ended (turns.moved T) (fresh_words cells) (fresh_deltas cells) (words_after_all fills (fresh_words cells)) (deltas_after_all fills (fresh_deltas cells))
           → g ≡ with_move T (rounds_from left (round_after r (clear_held cells) T c fills))

@@ -1,31 +1,33 @@
 -- How the growing insert's answers are read, with both halves.
-use Rattle.std.specs.Prelude.{List, [], ℕ, length}
+use Rattle.std.specs.Prelude.{List, [], ℕ, length, Result, Ok, Err}
 use Rattle.hashers.specs.Keys.{hash_of}
 use Rattle.hashers.specs.declared.Hasher.{Hasher}
 use Rattle.rules.specs.Cells.{Counts}
-use Rattle.rules.specs.Answers.{Said, new, replaced, revived, refused}
+use Rattle.rules.specs.Answers.{Said, refused}
 use Rattle.rules.specs.Moves.{Became, stays}
 use Rattle.rules.specs.Growing as rule
 use Rattle.rules.specs.Growing.{GrowOutcome, Round, rounds, most_rounds}
 use Rattle.cells.specs.Layout.{null, size_in, counts_of}
+use Rattle.cells.specs.Workers.{put_said}
+use Rattle.cells.specs.declared.insert.InsertSaid.{InsertSaid}
 use Rattle.moving.specs.Slices.{held_in, clear_held, words_become, deltas_become}
 use Rattle.parts.specs.Halves.{half_of, of_half}
 use Rattle.parts.specs.declared.Growing.{Growing}
-use Rattle.growth.specs.declared.GrowSaid.{GrowSaid}
-use Rattle.growth.specs.declared.GrowSaid.TheVariants as says
+use Rattle.growth.specs.declared.GrowError.{GrowError}
+use Rattle.growth.specs.declared.GrowError.TheVariants as errors
 use Rattle.growth.specs.declared.GrowAnswer.{GrowAnswer}
-use Rattle.growth.specs.declared.Grew.{Grew}
 
 -- each case by 01's number and with what it carries
-abbrev pub grow_said : GrowSaid → Said
-grow_said says.New = new
-grow_said (says.Replaced old) = replaced old
-grow_said says.Revived = revived
-grow_said says.Shape = refused 1 []
-grow_said says.ZeroHash = refused 2 []
-grow_said says.Null = refused 3 []
-grow_said says.Broken = refused 5 []
-grow_said says.NoRoom = refused 6 []
+abbrev pub grow_failed : GrowError → Said
+grow_failed errors.Shape = refused 1 []
+grow_failed errors.ZeroHash = refused 2 []
+grow_failed errors.Null = refused 3 []
+grow_failed errors.Broken = refused 5 []
+grow_failed errors.NoRoom = refused 6 []
+
+abbrev pub grow_said : Result InsertSaid GrowError → Said
+grow_said (Ok s) = put_said s
+grow_said (Err e) = grow_failed e
 
 -- what a growing insert did: its answer, the last walk, the moves, the record, and both halves
 pub record Grown : Type 0 where
@@ -39,21 +41,6 @@ pub record Grown : Type 0 where
   pub lower_deltas : List ℕ
   pub upper_words : List ℕ
   pub upper_deltas : List ℕ
-
-abbrev pub grew_by : Grew → (lws lds uws uds : List ℕ) → Grown
-grew_by r lws lds uws uds =
-    record {
-      said = grow_said r.said;
-      looked = r.looked;
-      moves = r.moves;
-      counts = counts_of r.live;
-      size = r.size;
-      half = half_of r.half;
-      lower_words = lws;
-      lower_deltas = lds;
-      upper_words = uws;
-      upper_deltas = uds;
-    }
 
 -- what became of the lower half and of the upper, from the half in use and the spare one
 abbrev pub lower_of : rule.Half → Became → Became → Became

@@ -1,3 +1,2 @@
-pub mod Rounds
-pub mod Ends
 pub mod Growth
+pub mod Rounds

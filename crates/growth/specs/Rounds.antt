@@ -1,18 +1,18 @@
 -- The tries and the rounds of the growing insert, on the slices of the two halves.
-use Rattle.std.specs.Prelude.{true, cond, List, [], ◌≡◌, ℕ, ◌*◌, ◌^◌, ◌≤◌, length}
+use Rattle.std.specs.Prelude.{true, cond, List, [], ◌≡◌, ℕ, ◌*◌, ◌^◌, ◌≤◌, length, Result, Ok, Err}
 use Rattle.hashers.specs.declared.Hasher.{Hasher}
 use Rattle.rules.specs.Sizes.{least_log, is_size}
 use Rattle.rules.specs.Cells.{Counts}
-use Rattle.rules.specs.Answers.{Said, Outcome}
+use Rattle.rules.specs.Answers.{Said, refused, Outcome}
 use Rattle.rules.specs.Calls.{insert_stored}
 use Rattle.rules.specs.Moves.{stays}
 use Rattle.rules.specs.Growing as rule
 use Rattle.rules.specs.Growing.{Tries, TryEnd, Round, round_tries, carried_by, is_full}
 use Rattle.cells.specs.Layout.{null, view, value_in, params_of, counts_of, fresh_words, fresh_deltas, words_after, deltas_after}
-use Rattle.cells.specs.Workers.{insert_said}
 use Rattle.moving.specs.Slices.{held_in, clear_held, words_become, deltas_become}
-use Rattle.growth.specs.declared.Tried.{Tried}
-use Rattle.growth.specs.declared.Tried.TheVariants as tried
+use Rattle.growth.specs.Growth.{grow_said}
+use Rattle.growth.specs.declared.TryError.{TryError}
+use Rattle.growth.specs.declared.TryError.TheVariants as errors
 use Rattle.growth.specs.declared.RoundEnd.{RoundEnd}
 use Rattle.growth.specs.declared.RoundEnd.TheVariants as ends
 use Rattle.growth.specs.declared.Turned.{Turned}
@@ -61,12 +61,12 @@ pub record TriedOn : Type 0 where
   pub words : List ℕ
   pub deltas : List ℕ
 
-abbrev pub tried_to : Tried → TriedTo
-tried_to (tried.To T) = to T
-tried_to tried.NoRoom = no_room
-tried_to tried.Broken = broken
+abbrev pub tried_to : Result ℕ TryError → TriedTo
+tried_to (Ok T) = to T
+tried_to (Err errors.NoRoom) = no_room
+tried_to (Err errors.Broken) = broken
 
-abbrev pub tried_by : Tried → List ℕ → List ℕ → TriedOn
+abbrev pub tried_by : Result ℕ TryError → List ℕ → List ℕ → TriedOn
 tried_by r ws ds = record { end = tried_to r; words = ws; deltas = ds }
 
 abbrev pub end_of : TryEnd → TriedTo
@@ -79,11 +79,10 @@ tried_on cells t ws ds = record { end = end_of t.end; words = words_become cells
 
 -- ---- a round, with both halves by their roles
 
+-- with the call's answer, or with a move into so many cells
 pub data TurnEnd : Type 0 where
   answered : Said → TurnEnd
   moved : ℕ → TurnEnd
-  no_room : TurnEnd
-  broken : TurnEnd
 
 pub record TurnedOn : Type 0 where
   pub end : TurnEnd
@@ -95,10 +94,8 @@ pub record TurnedOn : Type 0 where
   pub spare_deltas : List ℕ
 
 abbrev pub round_end : RoundEnd → TurnEnd
-round_end (ends.Answered s) = answered (insert_said s)
+round_end (ends.Answered s) = answered (grow_said s)
 round_end (ends.Moved T) = moved T
-round_end ends.NoRoom = no_room
-round_end ends.Broken = broken
 
 abbrev pub turned_by : Turned → (ws ds sws sds : List ℕ) → TurnedOn
 turned_by r ws ds sws sds =
@@ -115,8 +112,8 @@ turned_by r ws ds sws sds =
 -- after Full
 abbrev pub tried_end : TriedTo → TurnEnd
 tried_end (to T) = moved T
-tried_end no_room = no_room
-tried_end broken = broken
+tried_end no_room = answered (refused 6 [])
+tried_end broken = answered (refused 5 [])
 
 -- after a move the old half is clear, else it is as it was
 abbrev pub old_words : (cells : ℕ) → TriedTo → List ℕ → List ℕ

@@ -1,32 +1,28 @@
 // The insert that grows: after Full the table moves into the other half, at the sizes that document 01 names.
 #![tactic(auto)]
 
-ghost use Rattle.std.specs.Prelude.{false, List, [], ◌≡◌, ℕ};
+ghost use Rattle.std.specs.Prelude.{List, [], ◌≡◌, ℕ, Ok, Err};
 ghost use Rattle.hashers.specs.declared.Hasher.{Hasher as Hash};
 ghost use Rattle.rules.specs.Moves.{stays, cleared};
-ghost use Rattle.rules.specs.Growing.{tries, sizes, is_full, other_half, grow as grow·rule};
+ghost use Rattle.rules.specs.Growing.{tries, sizes, other_half, grow as grow·rule};
 ghost use Rattle.cells.specs.Layout.{null, counts_of};
-ghost use Rattle.cells.specs.Workers.{insert_said};
 ghost use Rattle.moving.specs.Slices.{held_in, clear_held};
 ghost use Rattle.parts.specs.Halves.{half_of, lent_halves};
-ghost use Rattle.growth.specs.Rounds.{Power, Cleared, Room, Halved, Sides, tried_on, tried_by, round_end, turned_by, full_on, turn_on, turn_sides};
-ghost use Rattle.growth.specs.Ends.{Still, turn_said};
-ghost use Rattle.growth.specs.Growth.{grow_said, grew_by, grew_from, rounds_on, grown_by, grow_left};
+ghost use Rattle.growth.specs.Rounds.{Power, Cleared, Room, Halved, Sides, answered, tried_end, tried_to, tried_on, tried_by, turned_by, full_on, turn_on, turn_sides};
+ghost use Rattle.growth.specs.Growth.{grow_failed, grew_from, rounds_on, grown_by, grow_left};
 
-use cells::insert::{InsertSaid, insert_stored};
-use cells::{Offered, Table, offer};
-use hashers::{Hasher, hash_of};
-use moving::{MoveEnd, clear_both, move_into};
+pub use cells::insert::InsertSaid;
+use cells::insert::{WalkError, insert_stored};
+use cells::{Cell, Table, offer};
+use hashers::hash_of;
+use moving::{clear_both, move_into};
 use parts::internal::passes;
 use parts::{Growing, Half};
 use sizing::{first_size, sample};
 
-// What a growing insert says, with its refusals. It is never Full.
-#[derive(Clone, Copy)]
-pub enum GrowSaid {
-    New,
-    Replaced(u64),
-    Revived,
+// How a growing insert is refused. It is never Full.
+#[derive(Clone, Copy, Debug, PartialEq, Eq)]
+pub enum GrowError {
     // 1
     Shape,
     // 2
@@ -41,7 +37,7 @@ pub enum GrowSaid {
 
 #[derive(Clone, Copy)]
 pub struct GrowAnswer {
-    pub said: GrowSaid,
+    pub said: Result<InsertSaid, GrowError>,
     // How many cells the last insert looked at.
     pub looked: usize,
     // How many moves were made.
@@ -49,12 +45,22 @@ pub struct GrowAnswer {
     pub growing: Growing,
 }
 
-// How the tries of a round end.
+// How the tries of a round are refused.
 #[derive(Clone, Copy)]
-enum Tried {
-    To(usize),
+enum TryError {
     NoRoom,
     Broken,
+}
+
+impl From<TryError> for GrowError {
+    ghost from_gives = { λ tried error. answered (grow_failed error) ≡ tried_end (tried_to (Err tried)) };
+
+    fn from(error: TryError) -> GrowError {
+        match error {
+            TryError::NoRoom => GrowError::NoRoom,
+            TryError::Broken => GrowError::Broken,
+        }
+    }
 }
 
 // Tries the sizes from `first` on, each twice the one before, up to the half's cells. The spare half is clear, and after a try
@@ -67,25 +73,19 @@ fn try_from(
     deltas: &mut [u8],
     cells: usize,
     first: usize,
-) -> Tried
+) -> Result<usize, TryError>
     requires { Cleared from.now size words.old deltas.old cells × Power first }
     ensures { (ds ow od : List ℕ) → tried_by result words.new deltas.new ≡ tried_on cells (tries cells null size (held_in from.now ds) (counts_of live) (clear_held cells) sizes first (cleared [])) ow od }
 {
     let mut to = first;
     while to <= cells {
-        let end = move_into(from, size, live, words, deltas, cells, to);
-        match end {
-            MoveEnd::All(_) => {
-                return Tried::To(to);
-            }
-            MoveEnd::Full(_) => {}
-            MoveEnd::Broken => {
-                return Tried::Broken;
-            }
+        match move_into(from, size, live, words, deltas, cells, to) {
+            Ok(_) => return Ok(to),
+            Err(WalkError::Full(_)) => to = 2 * to,
+            Err(WalkError::Broken) => return Err(TryError::Broken),
         }
-        to = 2 * to;
     }
-    Tried::NoRoom
+    Err(TryError::NoRoom)
 }
 
 // Only a try clears the spare half: a first size above the half's cells leaves it.
@@ -97,24 +97,22 @@ fn try_sizes(
     deltas: &mut [u8],
     cells: usize,
     first: usize,
-) -> Tried
+) -> Result<usize, TryError>
     requires { Room from.now size words.old deltas.old cells × Power first }
     ensures { (ds : List ℕ) → tried_by result words.new deltas.new ≡ tried_on cells (tries cells null size (held_in from.now ds) (counts_of live) (clear_held cells) sizes first (stays [])) words.old deltas.old }
 {
     if cells < first {
-        return Tried::NoRoom;
+        return Err(TryError::NoRoom);
     }
     clear_both(words, deltas, cells);
     try_from(from, size, live, words, deltas, cells, first)
 }
 
-// How a round ends: with the insert's answer, or after Full.
+// How a round ends: with the call's answer, or with a move into so many cells.
 #[derive(Clone, Copy)]
 enum RoundEnd {
-    Answered(InsertSaid),
+    Answered(Result<InsertSaid, GrowError>),
     Moved(usize),
-    NoRoom,
-    Broken,
 }
 
 #[derive(Clone, Copy)]
@@ -140,26 +138,16 @@ fn after_full(
     ensures { (hasher : Hash) → turned_by result words.new deltas.new spare_words.new spare_deltas.new ≡ full_on cells hasher size live looked position words.old deltas.old spare_words.old spare_deltas.old }
 {
     let first = first_size(size, sample(words, size, position));
-    let tried = try_sizes(words, size, live, spare_words, spare_deltas, cells, first);
-    match tried {
-        Tried::To(to) => {
+    match try_sizes(words, size, live, spare_words, spare_deltas, cells, first) {
+        Ok(to) => {
             clear_both(words, deltas, cells);
-            Turned {
-                end: RoundEnd::Moved(to),
-                looked,
-                live,
-            }
+            let end = RoundEnd::Moved(to);
+            Turned { end, looked, live }
         }
-        Tried::NoRoom => Turned {
-            end: RoundEnd::NoRoom,
-            looked,
-            live,
-        },
-        Tried::Broken => Turned {
-            end: RoundEnd::Broken,
-            looked,
-            live,
-        },
+        Err(error) => {
+            let end = RoundEnd::Answered(Err(GrowError::from(error)));
+            Turned { end, looked, live }
+        }
     }
 }
 
@@ -172,34 +160,36 @@ fn one_round(
     cells: usize,
     size: usize,
     live: usize,
-    hash: u64,
-    key: u64,
-    value: u64,
+    cell: Cell,
 ) -> Turned
     requires { Halved words.old deltas.old spare_words.old spare_deltas.old cells size }
-    ensures { (hasher : Hash) → turned_by result words.new deltas.new spare_words.new spare_deltas.new ≡ turn_on cells hasher size live hash key value words.old deltas.old spare_words.old spare_deltas.old }
+    ensures { (hasher : Hash) → turned_by result words.new deltas.new spare_words.new spare_deltas.new ≡ turn_on cells hasher size live cell.hash cell.key cell.value words.old deltas.old spare_words.old spare_deltas.old }
 {
-    let done = insert_stored(words, deltas, size, live, hash, key, value);
-    let said = done.said;
+    let done = insert_stored(words, deltas, size, live, cell);
     let looked = done.looked;
-    let InsertSaid::Full(at) = said else {
-        return Turned {
-            end: RoundEnd::Answered(said),
+    match done.said {
+        Ok(said) => Turned {
+            end: RoundEnd::Answered(Ok(said)),
             looked,
             live: done.live,
-        };
-    };
-    after_full(
-        words,
-        deltas,
-        spare_words,
-        spare_deltas,
-        cells,
-        size,
-        live,
-        looked,
-        at.position,
-    )
+        },
+        Err(WalkError::Full(at)) => after_full(
+            words,
+            deltas,
+            spare_words,
+            spare_deltas,
+            cells,
+            size,
+            live,
+            looked,
+            at.position,
+        ),
+        Err(WalkError::Broken) => Turned {
+            end: RoundEnd::Answered(Err(GrowError::Broken)),
+            looked,
+            live: done.live,
+        },
+    }
 }
 
 // A round with the halves in their roles.
@@ -212,13 +202,12 @@ fn turn(
     cells: usize,
     size: usize,
     live: usize,
-    hash: u64,
-    key: u64,
-    value: u64,
+    cell: Cell,
 ) -> Turned
     requires { Sides (half_of half) lower_words.old lower_deltas.old upper_words.old upper_deltas.old cells size }
-    ensures { (hasher : Hash) → turned_by result lower_words.new lower_deltas.new upper_words.new upper_deltas.new ≡ turn_sides (half_of half) cells hasher size live hash key value lower_words.old lower_deltas.old upper_words.old upper_deltas.old }
+    ensures { (hasher : Hash) → turned_by result lower_words.new lower_deltas.new upper_words.new upper_deltas.new ≡ turn_sides (half_of half) cells hasher size live cell.hash cell.key cell.value lower_words.old lower_deltas.old upper_words.old upper_deltas.old }
 {
+    // An arm for each half: the slices that are written are lent by name.
     match half {
         Half::Lower => one_round(
             lower_words,
@@ -228,9 +217,7 @@ fn turn(
             cells,
             size,
             live,
-            hash,
-            key,
-            value,
+            cell,
         ),
         Half::Upper => one_round(
             upper_words,
@@ -240,9 +227,7 @@ fn turn(
             cells,
             size,
             live,
-            hash,
-            key,
-            value,
+            cell,
         ),
     }
 }
@@ -256,47 +241,6 @@ fn other(half: Half) -> Half
     }
 }
 
-// An insert's answer that is not Full.
-fn answer_of(said: InsertSaid) -> GrowSaid
-    requires { is_full (insert_said said) ≡ false }
-    ensures { grow_said result ≡ insert_said said }
-{
-    match said {
-        InsertSaid::New => GrowSaid::New,
-        InsertSaid::Replaced(old) => GrowSaid::Replaced(old),
-        InsertSaid::Revived => GrowSaid::Revived,
-        InsertSaid::Shape => GrowSaid::Shape,
-        InsertSaid::ZeroHash => GrowSaid::ZeroHash,
-        InsertSaid::Null => GrowSaid::Null,
-        InsertSaid::Full(_) => GrowSaid::NoRoom,
-        InsertSaid::Broken => GrowSaid::Broken,
-    }
-}
-
-// What a round that did not move says.
-fn said_by(end: RoundEnd) -> GrowSaid
-    requires { Still (round_end end) }
-    ensures { grow_said result ≡ turn_said (round_end end) }
-{
-    match end {
-        RoundEnd::Answered(said) => answer_of(said),
-        RoundEnd::Moved(_) => GrowSaid::NoRoom,
-        RoundEnd::NoRoom => GrowSaid::NoRoom,
-        RoundEnd::Broken => GrowSaid::Broken,
-    }
-}
-
-// What the rounds did.
-#[derive(Clone, Copy)]
-struct Grew {
-    said: GrowSaid,
-    looked: usize,
-    moves: usize,
-    live: usize,
-    size: usize,
-    half: Half,
-}
-
 // Rounds until one does not move. Every move after the first at least doubles the size, so they end.
 fn grow_in(
     lower_words: &mut [u64],
@@ -304,19 +248,16 @@ fn grow_in(
     upper_words: &mut [u64],
     upper_deltas: &mut [u8],
     cells: usize,
-    first_size: usize,
-    first_half: Half,
-    live: usize,
-    hash: u64,
-    key: u64,
-    value: u64,
-) -> Grew
-    requires { Sides (half_of first_half) lower_words.old lower_deltas.old upper_words.old upper_deltas.old cells first_size }
-    ensures { (hasher : Hash) → grew_by result lower_words.new lower_deltas.new upper_words.new upper_deltas.new ≡ grew_from cells (rounds_on cells hasher first_size (half_of first_half) live hash key value lower_words.old lower_deltas.old upper_words.old upper_deltas.old) lower_words.old lower_deltas.old upper_words.old upper_deltas.old }
+    growing: Growing,
+    cell: Cell,
+) -> GrowAnswer
+    requires { Sides (half_of growing.half) lower_words.old lower_deltas.old upper_words.old upper_deltas.old cells growing.size }
+    ensures { (hasher : Hash) → grown_by result lower_words.new lower_deltas.new upper_words.new upper_deltas.new ≡ record { grown = grew_from cells (rounds_on cells hasher growing.size (half_of growing.half) growing.table.live cell.hash cell.key cell.value lower_words.old lower_deltas.old upper_words.old upper_deltas.old) lower_words.old lower_deltas.old upper_words.old upper_deltas.old; hasher = growing.table.hasher } }
 {
-    let mut size = first_size;
-    let mut half = first_half;
-    let mut moves: usize = 0;
+    let table = growing.table;
+    let mut size = growing.size;
+    let mut half = growing.half;
+    let mut moves = 0;
     loop {
         let turned = turn(
             half,
@@ -326,35 +267,37 @@ fn grow_in(
             upper_deltas,
             cells,
             size,
-            live,
-            hash,
-            key,
-            value,
+            table.live,
+            cell,
         );
-        let looked = turned.looked;
-        let end = turned.end;
-        let RoundEnd::Moved(to) = end else {
-            return Grew {
-                said: said_by(end),
-                looked,
-                moves,
-                live: turned.live,
-                size,
-                half,
-            };
-        };
-        size = to;
-        half = other(half);
-        moves += 1;
+        match turned.end {
+            RoundEnd::Answered(said) => {
+                let table = Table {
+                    hasher: table.hasher,
+                    live: turned.live,
+                };
+                return GrowAnswer {
+                    said,
+                    looked: turned.looked,
+                    moves,
+                    growing: Growing { table, size, half },
+                };
+            }
+            RoundEnd::Moved(to) => {
+                size = to;
+                half = other(half);
+                moves += 1;
+            }
+        }
     }
 }
 
 // A refusal that leaves all.
-fn refused(said: GrowSaid, growing: Growing) -> GrowAnswer
-    ensures { result ≡ record { said = said; looked = 0; moves = 0; growing = growing } }
+fn refused(error: GrowError, growing: Growing) -> GrowAnswer
+    ensures { result ≡ record { said = Err error; looked = 0; moves = 0; growing = growing } }
 {
     GrowAnswer {
-        said,
+        said: Err(error),
         looked: 0,
         moves: 0,
         growing,
@@ -374,59 +317,30 @@ pub fn insert(
 ) -> GrowAnswer
     ensures { grown_by result lower_words.new lower_deltas.new upper_words.new upper_deltas.new ≡ grow_left (grow·rule (lent_halves lower_words.old lower_deltas.old upper_words.old upper_deltas.old growing) key value) growing lower_words.old lower_deltas.old upper_words.old upper_deltas.old }
 {
-    let table = growing.table;
-    let hasher = table.hasher;
-    let live = table.live;
-    let size = growing.size;
-    let half = growing.half;
-    if passes(
+    if !passes(
         lower_words,
         lower_deltas,
         upper_words,
         upper_deltas,
         growing,
     ) {
-        let offered = offer(value);
-        match offered {
-            Offered::Fine => {
-                let hash = hash_of(hasher, key);
-                if hash == 0 {
-                    return refused(GrowSaid::ZeroHash, growing);
-                }
-                let cells = lower_deltas.len() / 2;
-                let grew = grow_in(
-                    lower_words,
-                    lower_deltas,
-                    upper_words,
-                    upper_deltas,
-                    cells,
-                    size,
-                    half,
-                    live,
-                    hash,
-                    key,
-                    value,
-                );
-                let said = grew.said;
-                let half = grew.half;
-                return GrowAnswer {
-                    said,
-                    looked: grew.looked,
-                    moves: grew.moves,
-                    growing: Growing {
-                        table: Table {
-                            hasher,
-                            live: grew.live,
-                        },
-                        size: grew.size,
-                        half,
-                    },
-                };
-            }
-            Offered::Null => {
-                return refused(GrowSaid::Null, growing);
-            }
-        }
+        return refused(GrowError::Shape, growing);
     }
-    refused(GrowSaid::Shape, growing)
+    let Ok(()) = offer(value) else {
+        return refused(GrowError::Null, growing);
+    };
+    let hash = hash_of(growing.table.hasher, key);
+    if hash == 0 {
+        return refused(GrowError::ZeroHash, growing);
+    }
+    let cells = lower_deltas.len() / 2;
+    grow_in(
+        lower_words,
+        lower_deltas,
+        upper_words,
+        upper_deltas,
+        cells,
+        growing,
+        Cell { hash, key, value },
+    )
 }

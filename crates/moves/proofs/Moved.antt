@@ -2,9 +2,7 @@
 use mathlib.Core.Bool.{Bool, true, false, cond, ◌&&◌}
 use mathlib.Core.List.{List, []}
 use mathlib.Core.Path.{◌≡◌, refl, sym, ap, ◌∙◌}
-use Prim.Native.Nat.{ℕ, ◌*◌, ◌≤◌}
-use native.Mathlib.Omega.{arith}
-use lib.ListN.{length}
+use Prim.Native.Nat.{ℕ}
 use lib.Dec.{leb}
 use Rattle.std.specs.Prelude.{Some, None, Result, Ok, Err}
 use Rattle.hashers.specs.declared.Hasher.{Hasher}
@@ -12,23 +10,12 @@ use Rattle.rules.specs.Cells.{Lent, shape}
 use Rattle.steps.proofs.Branches.{shape_passes}
 use Rattle.rules.specs.Moves.{Held, Ended, stop, MoveOutcome, stays, move_all, move_end, move}
 use Rattle.cells.specs.Layout.{null, is_shaped, size_in, lent, counts_of}
-use Rattle.cells.proofs.Shapes.{passed}
+use Rattle.cells.proofs.Shapes.{sized}
 use Rattle.cells.specs.declared.Table.{Table}
 use Rattle.cells.specs.declared.insert.WalkError.{WalkError}
-use Rattle.cells.specs.declared.insert.WalkError.TheVariants as walks
 use Rattle.moving.specs.Slices.{held_in, clear_held}
 use Rattle.moving.specs.Ends.{end_of, Into, into_by}
-use Rattle.moves.specs.Answers.{Move, refuses, move_said, walk_error, end_said, MoveLeft, move_rule}
-
--- ---- check 1 of the source, as `size_of` says it
-
-pub some_size : (b : Bool) (n m : ℕ) → Some n ≡ cond b (Some m) None → (b ≡ true) × (n ≡ m)
-some_size true n m e = (refl, cc)
-some_size false n m e = cc
-
-pub no_size : (b : Bool) (m : ℕ) → None ≡ cond b (Some m) None → b ≡ false
-no_size true m e = cc
-no_size false m e = refl
+use Rattle.moves.specs.Answers.{Move, refuses, move_said, end_said, MoveLeft, move_rule}
 
 -- ---- the rule
 
@@ -69,18 +56,12 @@ module _ (fws fds : List ℕ) (t : Table) (ws ds : List ℕ) where
   pub refused_destination : is_shaped ws ds ≡ false → record { said = refuses 1 []; words = ws; deltas = ds } ≡ move_rule fws fds t ws ds
   refused_destination e = as_rule _ _ (destination_refused (lent fws fds t) C (clear_held C) (is_shaped ws ds) e) refl
 
-  -- `size_of` gave the source's cells
-  pub source_holds : (S : ℕ) → Some S ≡ cond (is_shaped fws fds && leb t.live (size_in fds)) (Some (size_in fds)) None → 3 * S ≤ length fws
-  source_holds S a =
-      let z = some_size (is_shaped fws fds && leb t.live (size_in fds)) S (size_in fds) a in
-      omega (arith, (passed fws fds t.live z.0).0.words)
-
   -- past both checks it goes by how the move ended, of as many cells as `size_of` gave
   pub past_checks : (S : ℕ) → Some S ≡ cond (is_shaped fws fds && leb t.live (size_in fds)) (Some (size_in fds)) None → is_shaped ws ds ≡ true → (s : Move) (e : Ended) (ws' ds' : List ℕ)
       → record { ended = e; words = ws'; deltas = ds' } ≡ into_by C (move_end (move_all null S (held_in fws fds) (counts_of t.live) C (clear_held C)) (move_all null S (held_in fws fds) (counts_of t.live) C (clear_held C)).ended) ws ds
       → s ≡ end_said t.hasher e → record { said = s; words = ws'; deltas = ds' } ≡ move_rule fws fds t ws ds
   past_checks S a b s e ws' ds' p q =
-      let z = some_size _ S _ a in
+      let z = sized _ _ a in
       let p' = rw z.1 at p in
       as_rule _ _ (past_both (lent fws fds t) C (clear_held C) (is_shaped ws ds) (shape_passes (lent fws fds t) z.0) b)
       ((λ i. record { said = q i; words = ws'; deltas = ds' }) ∙ ap (saying t.hasher) p')
@@ -89,6 +70,5 @@ module _ (fws fds : List ℕ) (t : Table) (ws ds : List ℕ) where
 pub said_moved : (hasher : Hasher) (n : ℕ) (r : Result ℕ WalkError) → r ≡ Ok n → move_said (Ok (record { hasher = hasher; live = n })) ≡ end_said hasher (end_of r)
 said_moved hasher n r e = rw e
 
-pub said_stopped : (hasher : Hasher) (w : WalkError) (r : Result ℕ WalkError) → r ≡ Err w → move_said (Err (walk_error w)) ≡ end_said hasher (end_of r)
-said_stopped hasher (walks.Full at) r e = rw e
-said_stopped hasher walks.Broken r e = rw e
+pub said_stopped : (hasher : Hasher) (w : WalkError) (r : Result ℕ WalkError) → r ≡ Err w → (s : Move) → s ≡ end_said hasher (end_of (Err w)) → s ≡ end_said hasher (end_of r)
+said_stopped hasher w r e s q = q ∙ ap (λ (x : Result ℕ WalkError). end_said hasher (end_of x)) (sym e)

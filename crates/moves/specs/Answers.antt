@@ -4,8 +4,6 @@ use Rattle.hashers.specs.declared.Hasher.{Hasher}
 use Rattle.rules.specs.Moves.{Ended, all, stop, MoveOutcome, move}
 use Rattle.cells.specs.Layout.{lent, is_shaped, size_in}
 use Rattle.cells.specs.declared.Table.{Table}
-use Rattle.cells.specs.declared.insert.WalkError.{WalkError}
-use Rattle.cells.specs.declared.insert.WalkError.TheVariants as walks
 use Rattle.moving.specs.Slices.{clear_held, words_become, deltas_become}
 use Rattle.moves.specs.declared.MoveError.{MoveError}
 use Rattle.moves.specs.declared.MoveError.TheVariants as errors
@@ -23,11 +21,6 @@ move_failed errors.Broken = refuses 5 []
 abbrev pub move_said : Result Table MoveError → Move
 move_said (Ok t) = moved t
 move_said (Err e) = move_failed e
-
--- how an insert's walk is refused, as a move
-abbrev pub walk_error : WalkError → MoveError
-walk_error (walks.Full at) = errors.Full at
-walk_error walks.Broken = errors.Broken
 
 -- the new record has the hasher of the source's
 abbrev pub end_said : Hasher → Ended → Move

@@ -1,13 +1,14 @@
 // The plain move: the live cells of a table go over into one lent table of any allowed size.
 #![tactic(auto)]
 
-ghost use Rattle.std.specs.Prelude.{true, List, ◌≡◌, ℕ, ◌*◌, ◌≤◌, length};
+ghost use Rattle.std.specs.Prelude.{true, List, ◌≡◌, ℕ, ◌*◌, ◌≤◌, length, Err};
+ghost use Rattle.hashers.specs.declared.Hasher.{Hasher};
 ghost use Rattle.rules.specs.Sizes.{is_size};
 ghost use Rattle.rules.specs.Moves.{move_all, move_end};
 ghost use Rattle.cells.specs.Layout.{null, counts_of};
 ghost use Rattle.moving.specs.Slices.{held_in, clear_held};
 ghost use Rattle.moving.specs.Ends.{end_of, into_by};
-ghost use Rattle.moves.specs.Answers.{walk_error, move_left, move_rule};
+ghost use Rattle.moves.specs.Answers.{move_failed, end_said, move_left, move_rule};
 
 pub use cells::Table;
 pub use cells::insert::FullAt;
@@ -27,7 +28,7 @@ pub enum MoveError {
 }
 
 impl From<WalkError> for MoveError {
-    ghost from_gives = { λ walked error. error ≡ walk_error walked };
+    ghost from_gives = { λ walked error. (hasher : Hasher) → move_failed error ≡ end_said hasher (end_of (Err walked)) };
 
     fn from(error: WalkError) -> MoveError {
         match error {

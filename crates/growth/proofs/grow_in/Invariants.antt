@@ -5,10 +5,10 @@ use Rattle.parts.specs.Halves.{half_of}
 use Rattle.growth.proofs.Loop.{Turning}
 use Rattle.growth.proofs.grow_in.Given as goal
 
-abbrev pub invariant-loop-to : goal.invariant-loop-to
-invariant-loop-to l =
-    Turning l.cells l.hash l.key l.value l.live l.initial.size (half_of l.initial.half) l.initial.lower_words l.initial.lower_deltas l.initial.upper_words l.initial.upper_deltas (half_of l.half) l.size l.moves l.lower_words l.lower_deltas l.upper_words l.upper_deltas
+abbrev pub invariant-loop-said : goal.invariant-loop-said
+invariant-loop-said l =
+    Turning l.cells l.cell.hash l.cell.key l.cell.value l.table.live l.initial.size (half_of l.initial.half) l.initial.lower_words l.initial.lower_deltas l.initial.upper_words l.initial.upper_deltas (half_of l.half) l.size l.moves l.lower_words l.lower_deltas l.upper_words l.upper_deltas
 
-abbrev pub decreases-loop-to : goal.decreases-loop-to
-decreases-loop-to l =
+abbrev pub decreases-loop-said : goal.decreases-loop-said
+decreases-loop-said l =
     most_rounds - l.moves
