@@ -1,5 +1,5 @@
 -- What the code's tests and stores come to, in the terms of the contracts. Assumes nothing.
-use mathlib.Core.Bool.{Bool, true, false, ◌&&◌}
+use mathlib.Core.Bool.{true}
 use mathlib.Core.List.{List, [], ◌∷◌, ◌++◌}
 use mathlib.Core.Path.{◌≡◌, refl, ◌∙◌}
 use Prim.Native.Nat.{ℕ, suc, ◌+◌, ◌*◌, ◌/◌, ◌<◌}
@@ -8,6 +8,7 @@ use native.Mathlib.Omega.{arith}
 use borrow.Author.Tests.{ltb-true}
 use lib.ListN.{length, take, drop}
 use Rattle.std.proofs.Common.{append_assoc}
+use Rattle.std.proofs.lemmas.Bool.{and_parts}
 use Rattle.std.proofs.lemmas.List.{drop-drop}
 use lib.Seq.{sets, sets-eq}
 use Rattle.cells.specs.Layout.{size_in}
@@ -19,14 +20,10 @@ use Rattle.cells.specs.declared.Cell.{Cell}
 
 -- ---- the test
 
-both : (a b : Bool) → a && b ≡ true → (a ≡ true) × (b ≡ true)
-both true b e = (refl, e)
-both false b e = let z : ◌≡◌ {A = ℕ} 0 1 = cc in absurd (omega arith)
-
 pub inside : (ws ds : List ℕ) (b : ℕ) → fits_bucket ws ds b ≡ true → Inside (length ws) (length ds) b
 unfolding fits_bucket
 inside ws ds b e =
-    let t = both _ _ e in
+    let t = and_parts _ _ e in
     let s = shaped ws ds t.0 in
     let l : b < size_in ds / 4 = ltb-true _ _ t.1 in
     record { words = omega arith; deltas = omega arith }

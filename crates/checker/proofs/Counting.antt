@@ -1,6 +1,7 @@
 -- The checker's loop over the cells: those passed so far passed the test, and the live ones are counted. Assumes nothing.
 use Rattle.std.proofs.Common.{◌≡◌, ℕ, zero, suc, ◌+◌, ◌<◌, ◌≤◌, Bool, true, false, ◌&&◌, eqb, refl, add_comm, add-one, arith}
 use mir.Val.{bool_byte}
+use Rattle.std.proofs.lemmas.Bool.{and_right}
 use native.Mathlib.Decide.{ℕ_discrete}
 use Rattle.rules.specs.Cells.{Params, Cells, Counts, Lent, is_live, shape}
 use Rattle.rules.specs.Sound.{one, count}
@@ -20,12 +21,8 @@ module _ (test : ℕ → Bool) where
   all_fails zero i l t = absurd (omega arith)
   all_fails (suc n) i l t = go (λ m. all_fails n i m t) (ℕ_discrete i n)
     where
-      right : (b : Bool) → (b && false) ≡ false
-      right true = refl
-      right false = refl
-
       go : (i < n → all test n ≡ false) → Dec (i ≡ n) → all test n && test n ≡ false
-      go ih (yes e) = rw (← e, t) (right (all test i))
+      go ih (yes e) = rw (← e, t) (and_right (all test i) false refl)
       go ih (no f) = rw (ih (omega arith))
 
   pub count_none : count test 0 ≡ 0

@@ -1,5 +1,6 @@
 -- The checker says yes exactly when a table is sound: its test is 01's eight rules, both ways. Assumes nothing.
 use Rattle.std.proofs.Common.{◌≡◌, ℕ, zero, suc, ◌+◌, ◌-◌, ◌%◌, ◌<◌, ◌≤◌, Bool, true, false, cond, not, ◌&&◌, eqb, leb, ◌≢◌, ◌↔◌, List, [], ◌∷◌, sym, refl, inl, inr, arith, eq-eqb, ne_eqb, eqb-true, le-leb, leb-true}
+use Rattle.std.proofs.lemmas.Bool.{and_parts, and_from}
 use native.Mathlib.Decide.{ℕ_discrete}
 use borrow.Author.Tests.{eqb-false}
 use lib.Dec.{eqb-suc-zero}
@@ -18,18 +19,8 @@ use Rattle.checker.specs.Check.{all, of_home_test, chain_test, stops_at, met_tes
 
 -- ---- Booleans
 
-lie : {A : Type 0} → false ≡ true → A
-lie e = let z : ◌≡◌ {A = ℕ} 0 1 = cc in absurd (omega arith)
-
-both : (a b : Bool) → a && b ≡ true → (a ≡ true) × (b ≡ true)
-both true b e = (refl, e)
-both false b e = lie e
-
-pair : {a b : Bool} → a ≡ true → b ≡ true → a && b ≡ true
-pair e f = rw (e, f)
-
 not_is : (b : Bool) → not b ≡ true → b ≡ false
-not_is true e = lie e
+not_is true e = cc
 not_is false e = refl
 
 is_not : (a b : ℕ) → not (eqb a b) ≡ true → a ≢ b
@@ -41,16 +32,16 @@ not_eq a b n = rw (ne_eqb a b n)
 all_at : (test : ℕ → Bool) (n : ℕ) → all test n ≡ true → (i : ℕ) → i < n → test i ≡ true
 unfolding all
 all_at test zero e i l = absurd (omega arith)
-all_at test (suc n) e i l = go (λ m. all_at test n (both (all test n) (test n) e).0 i m) (ℕ_discrete i n)
+all_at test (suc n) e i l = go (λ m. all_at test n (and_parts (all test n) (test n) e).0 i m) (ℕ_discrete i n)
   where
     go : (i < n → test i ≡ true) → Dec (i ≡ n) → test i ≡ true
-    go ih (yes q) = rw q (both (all test n) (test n) e).1
+    go ih (yes q) = rw q (and_parts (all test n) (test n) e).1
     go ih (no f) = ih (omega arith)
 
 all_from : (test : ℕ → Bool) (n : ℕ) → ((i : ℕ) → i < n → test i ≡ true) → all test n ≡ true
 unfolding all
 all_from test zero f = refl
-all_from test (suc n) f = pair (all_from test n (λ i l. f i (omega arith))) (f n (omega arith))
+all_from test (suc n) f = and_from _ _ (all_from test n (λ i l. f i (omega arith))) (f n (omega arith))
 
 -- ---- a chain
 
@@ -67,12 +58,12 @@ longer j c = record { cells = j ∷ c.cells; left = c.left }
 module _ (S : ℕ) (cs : Cells) (h : ℕ) where
   of_home : (j : ℕ) → of_home_test S h j (cs.hash j) ≡ true → OfHome S cs h j
   of_home j e =
-      let a = both (not (eqb (cs.hash j) 0) && eqb (cs.hash j % S) h) (not (eqb j h)) e in
-      let b = both (not (eqb (cs.hash j) 0)) (eqb (cs.hash j % S) h) a.0 in
+      let a = and_parts (not (eqb (cs.hash j) 0) && eqb (cs.hash j % S) h) (not (eqb j h)) e in
+      let b = and_parts (not (eqb (cs.hash j) 0)) (eqb (cs.hash j % S) h) a.0 in
       record { taken = is_not (cs.hash j) 0 b.0; home = eqb-true _ _ b.1; away = is_not j h a.1 }
 
   home_of_lem : (j : ℕ) → OfHome S cs h j → of_home_test S h j (cs.hash j) ≡ true
-  home_of_lem j o = pair (pair (not_eq (cs.hash j) 0 o.taken) (eq-eqb _ _ o.home)) (not_eq j h o.away)
+  home_of_lem j o = and_from _ _ (and_from _ _ (not_eq (cs.hash j) 0 o.taken) (eq-eqb _ _ o.home)) (not_eq j h o.away)
 
   proper_longer : (j : ℕ) (c : Chain) → OfHome S cs h j → Proper S cs h c → Proper S cs h (longer j c)
   proper_longer j c o p = (p.0, at)
@@ -91,7 +82,7 @@ module _ (S : ℕ) (cs : Cells) (h : ℕ) where
     where
       go : (j : ℕ) (c : Chain) (t : Bool) → (t ≡ true → Proper S cs h c) → (b : Bool) → cond b true (of_home_test S h j (cs.hash j) && t) ≡ true → Proper S cs h (cond b ended (longer j c))
       go j c t ih true e = (refl, λ x m. absurd m)
-      go j c t ih false e = let a = both (of_home_test S h j (cs.hash j)) t e in proper_longer j c (of_home j a.0) (ih a.1)
+      go j c t ih false e = let a = and_parts (of_home_test S h j (cs.hash j)) t e in proper_longer j c (of_home j a.0) (ih a.1)
 
   -- and a proper one passes
   passes_chain : (n i d : ℕ) → Proper S cs h (links S cs n i d) → chain_test S cs h n i d ≡ true
@@ -103,14 +94,14 @@ module _ (S : ℕ) (cs : Cells) (h : ℕ) where
     where
       go : (j : ℕ) (c : Chain) (t : Bool) → (Proper S cs h c → t ≡ true) → (b : Bool) → Proper S cs h (cond b ended (longer j c)) → cond b true (of_home_test S h j (cs.hash j) && t) ≡ true
       go j c t ih true p = refl
-      go j c t ih false p = pair (home_of_lem j (p.1 j (inl refl))) (ih (p.0, λ x m. p.1 x (inr m)))
+      go j c t ih false p = and_from _ _ (home_of_lem j (p.1 j (inl refl))) (ih (p.0, λ x m. p.1 x (inr m)))
 
 -- ---- a cell's own walk
 
 met_at : (S i : ℕ) (s : Stop) → stops_at S i s ≡ true → MetAt S s i
 met_at S i (met q) e = record { position = q; stop = refl; cell = eqb-true _ _ e }
-met_at S i (tail q) e = lie e
-met_at S i broken e = lie e
+met_at S i (tail q) e = cc
+met_at S i broken e = cc
 
 at_met : (S i : ℕ) (s : Stop) → MetAt S s i → stops_at S i s ≡ true
 at_met S i s m = rw m.stop (eq-eqb _ _ m.cell)
@@ -128,18 +119,18 @@ module _ (p : Params) (cs : Cells) (value : ℕ → ℕ) (i : ℕ) (t : cell_tes
       × (cond (eqb (cs.hash i) 0) (empty_test p.null cs value i) (taken_test p cs i) ≡ true)
   unfolding cell_test
   parts =
-      let a = both ((leb (cs.first i) (window p.S) && leb (cs.second i) (window p.S)) && chain_test p.S cs i (p.S - 1) i (cs.first i)) _ t in
-      let b = both (leb (cs.first i) (window p.S) && leb (cs.second i) (window p.S)) _ a.0 in
-      let c = both (leb (cs.first i) (window p.S)) _ b.0 in
+      let a = and_parts ((leb (cs.first i) (window p.S) && leb (cs.second i) (window p.S)) && chain_test p.S cs i (p.S - 1) i (cs.first i)) _ t in
+      let b = and_parts (leb (cs.first i) (window p.S) && leb (cs.second i) (window p.S)) _ a.0 in
+      let c = and_parts (leb (cs.first i) (window p.S)) _ b.0 in
       (((leb-true _ _ c.0, leb-true _ _ c.1), b.1), a.1)
 
   is_clear : cs.hash i ≡ 0 → Clear p.null cs value i
   unfolding empty_test
   is_clear z =
       let e = either (empty_test p.null cs value i) (taken_test p cs i) (eqb (cs.hash i) 0) (eq-eqb _ _ z) parts.1 in
-      let a = both ((eqb (cs.key i) 0 && eqb (value i) p.null) && eqb (cs.first i) 0) _ e in
-      let b = both (eqb (cs.key i) 0 && eqb (value i) p.null) _ a.0 in
-      let c = both (eqb (cs.key i) 0) _ b.0 in
+      let a = and_parts ((eqb (cs.key i) 0 && eqb (value i) p.null) && eqb (cs.first i) 0) _ e in
+      let b = and_parts (eqb (cs.key i) 0 && eqb (value i) p.null) _ a.0 in
+      let c = and_parts (eqb (cs.key i) 0) _ b.0 in
       record { no_key = eqb-true _ _ c.0; no_value = eqb-true _ _ c.1; no_first = eqb-true _ _ b.1; no_second = eqb-true _ _ a.1 }
 
   module _ (y : Taken cs i) where
@@ -147,8 +138,8 @@ module _ (p : Params) (cs : Cells) (value : ℕ → ℕ) (i : ℕ) (t : cell_tes
     unfolding taken_test
     taken_parts =
         let e = other (empty_test p.null cs value i) (taken_test p cs i) (eqb (cs.hash i) 0) (ne_eqb _ _ y) parts.1 in
-        let a = both (eqb (cs.hash i) (p.hash_of (cs.key i)) && home_test p.S i (cs.hash i) (cs.second i)) _ e in
-        let b = both (eqb (cs.hash i) (p.hash_of (cs.key i))) _ a.0 in
+        let a = and_parts (eqb (cs.hash i) (p.hash_of (cs.key i)) && home_test p.S i (cs.hash i) (cs.second i)) _ e in
+        let b = and_parts (eqb (cs.hash i) (p.hash_of (cs.key i))) _ a.0 in
         ((eqb-true _ _ b.0, b.1), a.1)
 
     no_second : i ≡ home_of p.S cs i → cs.second i ≡ 0
@@ -163,7 +154,7 @@ module _ (p : Params) (cs : Cells) (value : ℕ → ℕ) (c : Counts) (z : Wraps
   test_sound : sound_test p cs value c ≡ true → Sound p cs value c
   unfolding sound_test
   test_sound t =
-      let a = both (all (cell_test p cs value) p.S) _ t in
+      let a = and_parts (all (cell_test p cs value) p.S) _ t in
       let at = all_at (cell_test p cs value) p.S a.0 in
       let hashes : HashesKeys p cs = λ i l y. (taken_parts p cs value i (at i l) y).0.0 in
       let chains : (h : ℕ) → h < p.S → Proper p.S cs h (chain_of p.S cs h) = λ h l. chain_passes p.S cs h (p.S - 1) h (cs.first h) (parts p cs value h (at h l)).0.1 in
@@ -185,7 +176,7 @@ module _ (p : Params) (cs : Cells) (value : ℕ → ℕ) (c : Counts) (z : Wraps
     unfolding empty_test
     empty_passes e =
         let k = s.empty_clear i l e in
-        pair (pair (pair (eq-eqb _ _ k.no_key) (eq-eqb _ _ k.no_value)) (eq-eqb _ _ k.no_first)) (eq-eqb _ _ k.no_second)
+        and_from _ _ (and_from _ _ (and_from _ _ (eq-eqb _ _ k.no_key) (eq-eqb _ _ k.no_value)) (eq-eqb _ _ k.no_first)) (eq-eqb _ _ k.no_second)
 
     home_passes : Taken cs i → home_test p.S i (cs.hash i) (cs.second i) ≡ true
     home_passes y = go (eqb (cs.hash i % p.S) i) refl
@@ -197,7 +188,7 @@ module _ (p : Params) (cs : Cells) (value : ℕ → ℕ) (c : Counts) (z : Wraps
     taken_passes : Taken cs i → taken_test p cs i ≡ true
     unfolding taken_test met_test
     taken_passes y =
-        pair (pair (eq-eqb _ _ (s.hashes_keys i l y)) (home_passes y))
+        and_from _ _ (and_from _ _ (eq-eqb _ _ (s.hashes_keys i l y)) (home_passes y))
         (at_met p.S i (walk p.S cs (cs.hash i) (cs.key i)).stop (sound_own_met p cs value c s z i l y))
 
     cell_passes : cell_test p cs value i ≡ true
@@ -205,7 +196,7 @@ module _ (p : Params) (cs : Cells) (value : ℕ → ℕ) (c : Counts) (z : Wraps
     cell_passes =
         let d = s.deltas_near i l in
         let h = s.chains_sound i l in
-        pair (pair (pair (le-leb _ _ d.0) (le-leb _ _ d.1)) (passes_chain p.S cs i (p.S - 1) i (cs.first i) (h.ends, h.holds)))
+        and_from _ _ (and_from _ _ (and_from _ _ (le-leb _ _ d.0) (le-leb _ _ d.1)) (passes_chain p.S cs i (p.S - 1) i (cs.first i) (h.ends, h.holds)))
         (go (eqb (cs.hash i) 0) refl)
       where
         go : (b : Bool) → eqb (cs.hash i) 0 ≡ b → cond b (empty_test p.null cs value i) (taken_test p cs i) ≡ true
@@ -214,7 +205,7 @@ module _ (p : Params) (cs : Cells) (value : ℕ → ℕ) (c : Counts) (z : Wraps
 
   sound_test_lem : Sound p cs value c → sound_test p cs value c ≡ true
   unfolding sound_test
-  sound_test_lem s = pair (all_from (cell_test p cs value) p.S (λ i l. cell_passes s i l)) (eq-eqb _ _ s.live_counts)
+  sound_test_lem s = and_from _ _ (all_from (cell_test p cs value) p.S (λ i l. cell_passes s i l)) (eq-eqb _ _ s.live_counts)
 
   -- the checker's test passes exactly for sound tables
   pub test_is_sound : (sound_test p cs value c ≡ true) ↔ Sound p cs value c
@@ -242,5 +233,5 @@ module _ (ws ds : List ℕ) (t : Table) where
           → cond (eqb n 0) (cond b sound (refused 9)) (refused 1) ≡ sound → (shape (lent ws ds t) ≡ 0) × SoundTable (lent ws ds t)
       yes zero e true q r =
           (e, (test_is_sound (lent ws ds t).params (lent ws ds t).cells (lent ws ds t).value (lent ws ds t).counts (size_wraps (size_in ds) (shaped_size e))).0 q)
-      yes zero e false q r = let z : ◌≡◌ {A = ℕ} 0 1 = cc in absurd (omega arith)
-      yes (suc n) e b q r = let s : refused 1 ≡ sound = rw (eqb-suc-zero n) at r in let z : ◌≡◌ {A = ℕ} 0 1 = cc in absurd (omega arith)
+      yes zero e false q r = cc
+      yes (suc n) e b q r = let s : refused 1 ≡ sound = rw (eqb-suc-zero n) at r in cc

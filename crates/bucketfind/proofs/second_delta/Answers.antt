@@ -1,5 +1,0 @@
--- `bucketfind::second_delta` meets its contract. Assumes nothing.
-use Rattle.bucketfind.proofs.second_delta.Goals as goal
-
-pub returns : goal.returns
-returns c = rw (c.wide.ensures, ← c.cell_index-i.ensures)
