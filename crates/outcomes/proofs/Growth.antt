@@ -2,42 +2,45 @@
 use mathlib.Core.List.{List}
 use mathlib.Core.Path.{◌≡◌, refl, ap}
 use Prim.Native.Nat.{ℕ, zero, suc}
+use Rattle.std.specs.Prelude.{Result, Ok, Err}
 use Rattle.rules.specs.Answers.{Said, found, absent, new, replaced, revived, removed, refused}
 use Rattle.rules.specs.Growing.{grow as grow·rule}
+use Rattle.cells.specs.declared.insert.InsertSaid.{InsertSaid}
+use Rattle.cells.specs.declared.insert.InsertSaid.TheVariants as puts
 use Rattle.parts.specs.Halves.{half_of, lent_halves}
 use Rattle.parts.specs.declared.Growing.{Growing}
 use Rattle.parts.proofs.Which.{unhalf, half_back}
 use Rattle.growth.specs.Growth.{grow_said, GrownLeft, grown_by, grow_left}
-use Rattle.growth.specs.declared.GrowSaid.{GrowSaid}
-use Rattle.growth.specs.declared.GrowSaid.TheVariants as says
+use Rattle.growth.specs.declared.GrowError.{GrowError}
+use Rattle.growth.specs.declared.GrowError.TheVariants as errors
 use Rattle.growth.specs.declared.GrowAnswer.{GrowAnswer}
 use Rattle.outcomes.proofs.One.{both, one}
 
 -- the answer that is said so
-abbrev ungrow : Said → GrowSaid
-ungrow new = says.New
-ungrow (replaced v) = says.Replaced v
-ungrow revived = says.Revived
-ungrow (refused zero l) = says.NoRoom
-ungrow (refused (suc zero) l) = says.Shape
-ungrow (refused (suc (suc zero)) l) = says.ZeroHash
-ungrow (refused (suc (suc (suc zero))) l) = says.Null
-ungrow (refused (suc (suc (suc (suc zero)))) l) = says.NoRoom
-ungrow (refused (suc (suc (suc (suc (suc zero))))) l) = says.Broken
-ungrow (refused (suc (suc (suc (suc (suc (suc n)))))) l) = says.NoRoom
-ungrow (found v) = says.NoRoom
-ungrow absent = says.NoRoom
-ungrow (removed v) = says.NoRoom
+abbrev ungrow : Said → Result InsertSaid GrowError
+ungrow new = Ok puts.New
+ungrow (replaced v) = Ok (puts.Replaced v)
+ungrow revived = Ok puts.Revived
+ungrow (refused zero l) = Err errors.NoRoom
+ungrow (refused (suc zero) l) = Err errors.Shape
+ungrow (refused (suc (suc zero)) l) = Err errors.ZeroHash
+ungrow (refused (suc (suc (suc zero))) l) = Err errors.Null
+ungrow (refused (suc (suc (suc (suc zero)))) l) = Err errors.NoRoom
+ungrow (refused (suc (suc (suc (suc (suc zero))))) l) = Err errors.Broken
+ungrow (refused (suc (suc (suc (suc (suc (suc n)))))) l) = Err errors.NoRoom
+ungrow (found v) = Err errors.NoRoom
+ungrow absent = Err errors.NoRoom
+ungrow (removed v) = Err errors.NoRoom
 
-grow_back : (a : GrowSaid) → ungrow (grow_said a) ≡ a
-grow_back says.New = refl
-grow_back (says.Replaced old) = refl
-grow_back says.Revived = refl
-grow_back says.Shape = refl
-grow_back says.ZeroHash = refl
-grow_back says.Null = refl
-grow_back says.Broken = refl
-grow_back says.NoRoom = refl
+grow_back : (a : Result InsertSaid GrowError) → ungrow (grow_said a) ≡ a
+grow_back (Ok puts.New) = refl
+grow_back (Ok (puts.Replaced old)) = refl
+grow_back (Ok puts.Revived) = refl
+grow_back (Err errors.Shape) = refl
+grow_back (Err errors.ZeroHash) = refl
+grow_back (Err errors.Null) = refl
+grow_back (Err errors.Broken) = refl
+grow_back (Err errors.NoRoom) = refl
 
 pub insert_one_outcome : (lower_words lower_deltas upper_words upper_deltas : List ℕ) (growing : Growing) (key value : ℕ) (r₁ r₂ : GrowAnswer) (lower_words₁ lower_deltas₁ upper_words₁ upper_deltas₁ lower_words₂ lower_deltas₂ upper_words₂ upper_deltas₂ : List ℕ)
     → grown_by r₁ lower_words₁ lower_deltas₁ upper_words₁ upper_deltas₁ ≡ grow_left (grow·rule (lent_halves lower_words lower_deltas upper_words upper_deltas growing) key value) growing lower_words lower_deltas upper_words upper_deltas
