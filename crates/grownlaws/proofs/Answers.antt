@@ -14,8 +14,11 @@ use Rattle.parts.specs.Halves.{half_of}
 use Rattle.halves.specs.Answers.{Four}
 use Rattle.parts.specs.declared.Growing.{Growing}
 use Rattle.growth.specs.Growth.{grow_said}
-use Rattle.growth.specs.declared.GrowSaid.{GrowSaid}
-use Rattle.growth.specs.declared.GrowSaid.TheVariants as says
+use Rattle.std.specs.Prelude.{Result, Ok, Err}
+use Rattle.cells.specs.declared.insert.InsertSaid.{InsertSaid}
+use Rattle.cells.specs.declared.insert.InsertSaid.TheVariants as puts
+use Rattle.growth.specs.declared.GrowError.{GrowError}
+use Rattle.growth.specs.declared.GrowError.TheVariants as errors
 use Rattle.growth.specs.declared.GrowAnswer.{GrowAnswer}
 use Rattle.growthlaws.specs.Grown.{half_after}
 use Rattle.growthlaws.proofs.Never.{grow_never_4, grow_5_before_moves, sound_never_5}
@@ -25,15 +28,15 @@ use Rattle.grownlaws.specs.Meets.{lent_on, ruled, Meets}
 use Rattle.grownlaws.proofs.After.{lent_halves_lem, said_is, looked_is, moves_is, size_is, half_is}
 
 -- 6 is told as NoRoom alone
-pub no_room_said : (a : GrowSaid) (x : List ℕ) → grow_said a ≡ refused 6 x → a ≡ says.NoRoom
-no_room_said says.NoRoom x e = refl
-no_room_said says.New x e = let z : ◌≡◌ {A = ℕ} 0 1 = cc in absurd (omega arith)
-no_room_said (says.Replaced old) x e = let z : ◌≡◌ {A = ℕ} 0 1 = cc in absurd (omega arith)
-no_room_said says.Revived x e = let z : ◌≡◌ {A = ℕ} 0 1 = cc in absurd (omega arith)
-no_room_said says.Shape x e = let z : ◌≡◌ {A = ℕ} 1 6 = cc in absurd (omega arith)
-no_room_said says.ZeroHash x e = let z : ◌≡◌ {A = ℕ} 2 6 = cc in absurd (omega arith)
-no_room_said says.Null x e = let z : ◌≡◌ {A = ℕ} 3 6 = cc in absurd (omega arith)
-no_room_said says.Broken x e = let z : ◌≡◌ {A = ℕ} 5 6 = cc in absurd (omega arith)
+pub no_room_said : (a : Result InsertSaid GrowError) (x : List ℕ) → grow_said a ≡ refused 6 x → a ≡ Err errors.NoRoom
+no_room_said (Err errors.NoRoom) x e = refl
+no_room_said (Ok puts.New) x e = let z : ◌≡◌ {A = ℕ} 0 1 = cc in absurd (omega arith)
+no_room_said (Ok (puts.Replaced old)) x e = let z : ◌≡◌ {A = ℕ} 0 1 = cc in absurd (omega arith)
+no_room_said (Ok puts.Revived) x e = let z : ◌≡◌ {A = ℕ} 0 1 = cc in absurd (omega arith)
+no_room_said (Err errors.Shape) x e = let z : ◌≡◌ {A = ℕ} 1 6 = cc in absurd (omega arith)
+no_room_said (Err errors.ZeroHash) x e = let z : ◌≡◌ {A = ℕ} 2 6 = cc in absurd (omega arith)
+no_room_said (Err errors.Null) x e = let z : ◌≡◌ {A = ℕ} 3 6 = cc in absurd (omega arith)
+no_room_said (Err errors.Broken) x e = let z : ◌≡◌ {A = ℕ} 5 6 = cc in absurd (omega arith)
 
 pub none_made : (l : List ℕ) → length l ≡ 0 → l ≡ []
 none_made [] e = refl
@@ -45,13 +48,13 @@ module _ (s : Four) (g : Growing) (k v : ℕ) (r : GrowAnswer) (s' : Four) (m : 
   answer_never_4 x e = grow_never_4 (lent_on s g) k v x (sym (said_is s g k v r s' m) ∙ e)
 
   -- and 5 only before its first move, whatever table it starts from
-  pub answer_5_unmoved : r.said ≡ says.Broken → r.moves ≡ 0
+  pub answer_5_unmoved : r.said ≡ Err errors.Broken → r.moves ≡ 0
   answer_5_unmoved e =
       moves_is s g k v r s' m
       ∙ ap length (grow_5_before_moves (lent_on s g) (lent_halves_lem s g) k v [] (sym (said_is s g k v r s' m) ∙ ap grow_said e))
 
   -- and never where its table is sound
-  pub answer_never_5 : SoundTable (in_use (lent_on s g)) → r.said ≢ says.Broken
+  pub answer_never_5 : SoundTable (in_use (lent_on s g)) → r.said ≢ Err errors.Broken
   answer_never_5 t e = sound_never_5 (lent_on s g) (lent_halves_lem s g) k v t [] (sym (said_is s g k v r s' m) ∙ ap grow_said e)
 
   -- "so at most 13 moves follow the first": as many as there are sizes above the least

@@ -18,7 +18,8 @@ use Rattle.halves.specs.Answers.{Four}
 use Rattle.parts.specs.declared.Growing.{Growing}
 use Rattle.parts.proofs.Which.{unhalf, half_back}
 use Rattle.growth.specs.Growth.{grow_said, lower_of, upper_of}
-use Rattle.growth.specs.declared.GrowSaid.TheVariants as says
+use Rattle.std.specs.Prelude.{Err}
+use Rattle.growth.specs.declared.GrowError.TheVariants as errors
 use Rattle.growth.specs.declared.GrowAnswer.{GrowAnswer}
 use Rattle.growthlaws.specs.Rounds as ways
 use Rattle.growthlaws.specs.Rounds.{RoundWay}
@@ -151,7 +152,7 @@ module _ (s : Four) (g : Growing) (k v : ℕ) (r : GrowAnswer) (s' : Four) (m : 
       )
 
   -- so Broken leaves them
-  pub broken_leaves_table : r.said ≡ says.Broken
+  pub broken_leaves_table : r.said ≡ Err errors.Broken
       → (words_of (half_of g.half) s' ≡ words_of (half_of g.half) s) × (deltas_of (half_of g.half) s' ≡ deltas_of (half_of g.half) s) × (r.growing ≡ g)
   broken_leaves_table e = refused_leaves_table 5 [] (ap grow_said e) (answer_5_unmoved s g k v r s' m e)
 
@@ -175,7 +176,7 @@ module _ (s : Four) (g : Growing) (k v : ℕ) (r : GrowAnswer) (s' : Four) (m : 
 
   module _ (full : IsFull (first_insert s g k v).said) where
     -- "A size above C is not tried: NoRoom": with no try all is left
-    pub untried_leaves_all : size_in s.lower_deltas < first_try (lent_on s g) k v → (r.said ≡ says.NoRoom) × (s' ≡ s) × (r.growing ≡ g) × (r.moves ≡ 0)
+    pub untried_leaves_all : size_in s.lower_deltas < first_try (lent_on s g) k v → (r.said ≡ Err errors.NoRoom) × (s' ≡ s) × (r.growing ≡ g) × (r.moves ≡ 0)
     untried_leaves_all u =
         let q = untried_leaves (lent_on s g) (lent_halves_lem s g) k v full u in (
           no_room_said r.said [] (said_is s g k v r s' m ∙ ap (λ (y : GrowOutcome). y.said) q),

@@ -12,7 +12,8 @@ use Rattle.sound.specs.State.{SoundTable, Acceptable, state_of, inserts}
 use Rattle.halves.specs.Answers.{Four}
 use Rattle.parts.specs.declared.Growing.{Growing}
 use Rattle.growth.specs.Growth.{grow_said}
-use Rattle.growth.specs.declared.GrowSaid.TheVariants as says
+use Rattle.std.specs.Prelude.{Err}
+use Rattle.growth.specs.declared.GrowError.TheVariants as errors
 use Rattle.growth.specs.declared.GrowAnswer.{GrowAnswer}
 use Rattle.growthlaws.proofs.Lookups.{grow_keeps_sound, grow_keeps_shape, grow_others, refused_lookups, grow_says, grow_finds}
 use Rattle.grownlaws.specs.Meets.{lent_on, ruled, Meets}
@@ -43,7 +44,7 @@ module _ (s : Four) (g : Growing) (k v : ℕ) (r : GrowAnswer) (s' : Four) (m : 
       ∙ refused_lookups (lent_on s g) (lent_halves_lem s g) t k v n x (sym (said_is s g k v r s' m) ∙ e) q
 
   -- an insert that 1, 2 and 3 don't refuse, and that finds room
-  module _ (a : Acceptable (in_use (lent_on s g)) k v) (room : r.said ≢ says.NoRoom) where
+  module _ (a : Acceptable (in_use (lent_on s g)) k v) (room : r.said ≢ Err errors.NoRoom) where
     no_6 : (x : List ℕ) → (ruled s g k v).said ≢ refused 6 x
     no_6 x e = room (no_room_said r.said x (said_is s g k v r s' m ∙ e))
 
