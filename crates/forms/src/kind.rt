@@ -3,63 +3,74 @@ use std::str::FromStr;
 
 #[derive(Clone, Copy, Debug, PartialEq, Eq)]
 pub enum Kind {
-    // Of what is kept between requests alone.
-    Nothing = 0,
-    Lend = 1,
-    Spare = 2,
-    Record = 3,
-    Digests = 4,
-    Digest = 5,
-    Show = 6,
-    // Forging memory.
-    Word = 8,
-    Delta = 9,
-    SpareWord = 10,
-    SpareDelta = 11,
-    // Calls on a table of fixed size.
-    Table = 16,
-    Clear = 17,
-    Insert = 18,
-    Find = 19,
-    Remove = 20,
-    Len = 21,
-    IsEmpty = 22,
-    Capacity = 23,
-    ContainsKey = 24,
-    GetKeyValue = 25,
-    Hash = 26,
-    Check = 27,
+    Nothing,
+    Lend,
+    Spare,
+    Record,
+    Digests,
+    Digest,
+    Show,
+    Word,
+    Delta,
+    SpareWord,
+    SpareDelta,
+    Table,
+    Clear,
+    Insert,
+    Find,
+    Remove,
+    Len,
+    IsEmpty,
+    Capacity,
+    ContainsKey,
+    GetKeyValue,
+    Hash,
+    Check,
+    Take,
+    Copy,
+    Cell,
+    Change,
+    Move,
+    MoveBack,
+    Halves,
+    ClearHalves,
+    InUse,
+    Grow,
+    GrowFind,
+    GrowRemove,
+    Parts,
+    GrowCheck,
+    Cursor,
+    Step,
+    Set,
+    Entry,
+    ForgeOccupied,
+    ForgeVacant,
+    EntryKey,
+    EntryGet,
+    EntryReplace,
+    EntryRemove,
+    RemoveEntry,
+    EntryInsert,
+    OrInsert,
+    InsertEntry,
+}
+
+// What requests of a kind concern.
+#[derive(Clone, Copy, Debug, PartialEq, Eq)]
+pub enum Group {
+    // What is kept between requests alone.
+    Kept,
+    // A word or a delta, which is forged.
+    Forged,
+    // A table of fixed size.
+    Fixed,
     // Buckets out and in.
-    Take = 32,
-    Copy = 33,
-    Cell = 34,
-    Change = 35,
+    Buckets,
     // Moves and growing tables.
-    Move = 48,
-    MoveBack = 49,
-    Halves = 50,
-    ClearHalves = 51,
-    InUse = 52,
-    Grow = 53,
-    GrowFind = 54,
-    GrowRemove = 55,
-    Parts = 56,
-    GrowCheck = 57,
+    Growing,
     // The cursor, setting and entries.
-    Cursor = 64,
-    Step = 65,
-    Set = 66,
-    Entry = 67,
-    ForgeOccupied = 68,
-    ForgeVacant = 69,
-    EntryKey = 70,
-    EntryGet = 71,
-    EntryReplace = 72,
-    EntryRemove = 73,
-    RemoveEntry = 74,
-    EntryInsert = 75,
-    OrInsert = 76,
-    InsertEntry = 77,
+    Held,
 }
 
 // What is no kind: a number or a word.
@@ -189,6 +200,56 @@ impl FromStr for Kind {
 }
 
 impl Kind {
+    pub fn group(self) -> Group {
+        match self {
+            Kind::Nothing
+            | Kind::Lend
+            | Kind::Spare
+            | Kind::Record
+            | Kind::Digests
+            | Kind::Digest
+            | Kind::Show => Group::Kept,
+            Kind::Word | Kind::Delta | Kind::SpareWord | Kind::SpareDelta => Group::Forged,
+            Kind::Table
+            | Kind::Clear
+            | Kind::Insert
+            | Kind::Find
+            | Kind::Remove
+            | Kind::Len
+            | Kind::IsEmpty
+            | Kind::Capacity
+            | Kind::ContainsKey
+            | Kind::GetKeyValue
+            | Kind::Hash
+            | Kind::Check => Group::Fixed,
+            Kind::Take | Kind::Copy | Kind::Cell | Kind::Change => Group::Buckets,
+            Kind::Move
+            | Kind::MoveBack
+            | Kind::Halves
+            | Kind::ClearHalves
+            | Kind::InUse
+            | Kind::Grow
+            | Kind::GrowFind
+            | Kind::GrowRemove
+            | Kind::Parts
+            | Kind::GrowCheck => Group::Growing,
+            Kind::Cursor
+            | Kind::Step
+            | Kind::Set
+            | Kind::Entry
+            | Kind::ForgeOccupied
+            | Kind::ForgeVacant
+            | Kind::EntryKey
+            | Kind::EntryGet
+            | Kind::EntryReplace
+            | Kind::EntryRemove
+            | Kind::RemoveEntry
+            | Kind::EntryInsert
+            | Kind::OrInsert
+            | Kind::InsertEntry => Group::Held,
+        }
+    }
+
     // Whether an answer of that kind has a count of cells looked at.
     pub fn looks(self) -> bool {
         matches!(

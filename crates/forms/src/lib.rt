@@ -12,7 +12,7 @@ pub mod said;
 pub mod text;
 
 use hashers::Hasher;
-pub use kind::Kind;
+pub use kind::{Group, Kind};
 pub use said::Said;
 
 // What is asked: a kind, and the numbers that it carries.

@@ -4,6 +4,7 @@ use crate::line::Line;
 // Standard input.
 const STDIN_FILENO: i32 = 0;
 
+#[derive(Drop)]
 pub struct Reader<'a> {
     // What was read last, and which part of it is still to be taken.
     input: &'a mut [u8],

@@ -1,0 +1,69 @@
+// The memory that requests work on, and how much of it is lent.
+use forms::digest::mix_slice;
+
+// So many words, and so many deltas.
+#[derive(Clone, Copy)]
+pub struct Lent {
+    pub words: usize,
+    pub deltas: usize,
+}
+
+// What the arrays have: room for 131,072 cells, twice the greatest size, and for 65,536 spare ones.
+pub const ROOM: Lent = Lent {
+    words: 393_216,
+    deltas: 262_144,
+};
+
+pub const SPARE_ROOM: Lent = Lent {
+    words: 196_608,
+    deltas: 131_072,
+};
+
+impl Lent {
+    // So many, where there is room for them.
+    pub fn new(words: u64, deltas: u64, room: Lent) -> Option<Lent> {
+        let lent = Lent {
+            words: words as usize,
+            deltas: deltas as usize,
+        };
+        (lent.words <= room.words && lent.deltas <= room.deltas).then_some(lent)
+    }
+
+    // 3 words and 2 deltas for each cell.
+    pub fn of_cells(cells: u64, room: Lent) -> Option<Lent> {
+        Lent::new(cells.checked_mul(3)?, cells.checked_mul(2)?, room)
+    }
+}
+
+// The words and the deltas of a table or of one half.
+#[derive(Drop)]
+pub struct Arrays<'a> {
+    pub words: &'a mut [u64],
+    pub deltas: &'a mut [u8],
+}
+
+impl Arrays<'_> {
+    // Lends so much of them to a call; nothing where they have less.
+    pub fn lend<R, F: FnOnce(&mut [u64], &mut [u8]) -> R>(&mut self, lent: Lent, call: F) -> Option<R>
+        requires { F.IsAlwaysCallable call }
+    {
+        let words = self.words.get_mut(..lent.words)?;
+        let deltas = self.deltas.get_mut(..lent.deltas)?;
+        Some(call(words, deltas))
+    }
+
+    // Takes what is lent of them into a digest.
+    pub fn digest(&self, start: u64, lent: Lent) -> u64 {
+        let words = self.words.get(..lent.words);
+        let deltas = self.deltas.get(..lent.deltas);
+        let digest = words.map_or(start, |words| mix_slice(start, words));
+        deltas.map_or(digest, |deltas| mix_slice(digest, deltas))
+    }
+}
+
+// The arrays of the table, which are the lower half of a growing one, and the spare ones, which are its upper half.
+#[derive(Drop)]
+pub struct Memory<'a> {
+    pub table: Arrays<'a>,
+    pub spare: Arrays<'a>,
+}
