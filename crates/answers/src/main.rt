@@ -5,7 +5,7 @@
 
 use forms::bytes;
 use forms::line::print;
-use kept::{Arrays, Memory, State};
+use kept::{Memory, State, with_memory};
 use serving::lines::Mode;
 use serving::{lines, turn};
 
@@ -40,23 +40,17 @@ fn compact(memory: &mut Memory, input: &mut [u8], first: usize) {
     }
 }
 
-// The arrays have room for 131,072 cells, twice the greatest size, so that a size that is too great can be tried too.
-fn main() {
-    let mut memory = Memory {
-        table: Arrays {
-            words: &mut [0; 393_216],
-            deltas: &mut [0; 262_144],
-        },
-        spare: Arrays {
-            words: &mut [0; 196_608],
-            deltas: &mut [0; 131_072],
-        },
-    };
+// Answers all requests in the form that the input is in.
+fn run(memory: &mut Memory) {
     let mut input = [0; 20_480];
     let n = io::read_full(STDIN_FILENO, &mut input);
     if input[0] == 0 {
-        compact(&mut memory, &mut input, n);
+        compact(memory, &mut input, n);
     } else {
-        lines::serve(&mut memory, &mut input, n, Mode::Answer);
+        lines::serve(memory, &mut input, n, Mode::Answer);
     }
+}
+
+fn main() {
+    with_memory(run);
 }

@@ -1,4 +1,4 @@
-// The calls on a table of fixed size as requests: kinds 16 to 31.
+// The calls on a table of fixed size as requests.
 #![tactic(auto)]
 
 use checker::CheckSaid;
@@ -7,7 +7,7 @@ use forms::{Kind, Request, Said, Told};
 use hashmap::{ClearSaid, FindSaid, InsertSaid, RemoveSaid, Table};
 use hashreads::{CapacitySaid, ContainsSaid, KeyValueSaid};
 
-// ---- each answer as a number with its values
+// ---- each answer as what is told
 
 fn inserted(answer: InsertSaid, n: usize) -> Told {
     match answer {

@@ -33,17 +33,12 @@ impl<const N: usize> Line<N> {
         self.used = 0;
     }
 
-    pub fn push(&mut self, byte: u8) {
-        if self.used < N {
-            self.bytes[self.used] = byte;
-            self.used += 1;
-        }
-    }
-
     pub fn extend(&mut self, bytes: &[u8]) {
-        for byte in bytes {
-            self.push(*byte);
-        }
+        let used = self.used;
+        let n = bytes.len().min(N - used);
+        let room = &mut self.bytes[..];
+        room[used..used + n].copy_from_slice(&bytes[..n]);
+        self.used = used + n;
     }
 
     pub fn as_slice(&self) -> &[u8] {
@@ -52,7 +47,7 @@ impl<const N: usize> Line<N> {
 
     // Writes the line, and ends it.
     pub fn print(&mut self) {
-        self.push(b'\n');
+        self.extend(b"\n");
         print(self.as_slice());
     }
 }

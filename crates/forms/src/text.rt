@@ -1,5 +1,4 @@
 // A request as a line of text, and an answer behind it.
-use crate::line::Line;
 use crate::{Answer, Kind, Request, Told};
 use std::fmt;
 
@@ -18,8 +17,7 @@ fn decimal(digits: &[u8]) -> Option<u64> {
 fn number(word: &[u8]) -> Option<u64> {
     match word {
         b"off" => Some(0),
-        b"on" => Some(1),
-        b"simple" => Some(1),
+        b"on" | b"simple" => Some(1),
         b"murmur" => Some(2),
         b"fnv" => Some(3),
         b"null" => Some(NULL),

@@ -1,4 +1,4 @@
-// Buckets out and in: kinds 32 to 39.
+// Buckets out and in.
 use buckets::{Bucket, Cell, CellSaid, ChangeSaid, PutSaid, TakeSaid};
 use forms::digest::{mix, mix_all};
 use forms::{Kind, Request, Said, Told};

@@ -12,7 +12,7 @@ use forms::digest::mix;
 use forms::hasher::{hasher_of, number_of};
 use forms::{Kind, Request};
 use hashers::Hasher;
-pub use memory::{Arrays, Lent, Memory};
+pub use memory::{Arrays, Lent, Memory, with_memory};
 use memory::{ROOM, SPARE_ROOM};
 use parts::{Growing, Half};
 
@@ -30,10 +30,6 @@ pub struct State {
 impl State {
     // Before any request: nothing is lent.
     pub fn start() -> State {
-        let none = Lent {
-            words: 0,
-            deltas: 0,
-        };
         State {
             growing: Growing {
                 table: Table {
@@ -43,8 +39,8 @@ impl State {
                 size: 0,
                 half: Half::Lower,
             },
-            lent: none,
-            spare: none,
+            lent: Lent::default(),
+            spare: Lent::default(),
             digests: false,
             hand: Hand::start(),
         }

@@ -2,21 +2,30 @@
 use forms::digest::mix_slice;
 
 // So many words, and so many deltas.
-#[derive(Clone, Copy)]
+#[derive(Clone, Copy, Default)]
 pub struct Lent {
     pub words: usize,
     pub deltas: usize,
 }
 
-// What the arrays have: room for 131,072 cells, twice the greatest size, and for 65,536 spare ones.
+// What the arrays have: room for 131,072 cells, twice the greatest size, so that a size that is too great can be tried too, and for
+// 65,536 spare ones.
+const WORDS: usize = 393_216;
+
+const DELTAS: usize = 262_144;
+
+const SPARE_WORDS: usize = 196_608;
+
+const SPARE_DELTAS: usize = 131_072;
+
 pub const ROOM: Lent = Lent {
-    words: 393_216,
-    deltas: 262_144,
+    words: WORDS,
+    deltas: DELTAS,
 };
 
 pub const SPARE_ROOM: Lent = Lent {
-    words: 196_608,
-    deltas: 131_072,
+    words: SPARE_WORDS,
+    deltas: SPARE_DELTAS,
 };
 
 impl Lent {
@@ -44,7 +53,11 @@ pub struct Arrays<'a> {
 
 impl Arrays<'_> {
     // Lends so much of them to a call; nothing where they have less.
-    pub fn lend<R, F: FnOnce(&mut [u64], &mut [u8]) -> R>(&mut self, lent: Lent, call: F) -> Option<R>
+    pub fn lend<R, F: FnOnce(&mut [u64], &mut [u8]) -> R>(
+        &mut self,
+        lent: Lent,
+        call: F,
+    ) -> Option<R>
         requires { F.IsAlwaysCallable call }
     {
         let words = self.words.get_mut(..lent.words)?;
@@ -66,4 +79,20 @@ impl Arrays<'_> {
 pub struct Memory<'a> {
     pub table: Arrays<'a>,
     pub spare: Arrays<'a>,
+}
+
+// Calls a program with clear memory.
+pub fn with_memory<R, F: FnOnce(&mut Memory<'_>) -> R>(program: F) -> R
+    requires { F.IsAlwaysCallable program }
+{
+    program(&mut Memory {
+        table: Arrays {
+            words: &mut [0; WORDS],
+            deltas: &mut [0; DELTAS],
+        },
+        spare: Arrays {
+            words: &mut [0; SPARE_WORDS],
+            deltas: &mut [0; SPARE_DELTAS],
+        },
+    })
 }

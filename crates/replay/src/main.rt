@@ -4,7 +4,7 @@
 #![tactic(auto)]
 
 use forms::line::Line;
-use kept::{Arrays, Memory};
+use kept::{Memory, with_memory};
 use serving::lines;
 use serving::lines::Mode;
 use std::fmt::Write;
@@ -12,20 +12,10 @@ use std::fmt::Write;
 // Standard input.
 const STDIN_FILENO: i32 = 0;
 
-fn main() {
-    let mut memory = Memory {
-        table: Arrays {
-            words: &mut [0; 393_216],
-            deltas: &mut [0; 262_144],
-        },
-        spare: Arrays {
-            words: &mut [0; 196_608],
-            deltas: &mut [0; 131_072],
-        },
-    };
+fn run(memory: &mut Memory) {
     let mut input = [0; 20_480];
     let n = io::read_full(STDIN_FILENO, &mut input);
-    let all = lines::serve(&mut memory, &mut input, n, Mode::Replay);
+    let all = lines::serve(memory, &mut input, n, Mode::Replay);
     let mut line = Line::<64>::new();
     let _ = write!(
         line,
@@ -33,4 +23,8 @@ fn main() {
         all.requests, all.differences
     );
     line.print();
+}
+
+fn main() {
+    with_memory(run);
 }

@@ -22,7 +22,7 @@ pub enum Mode {
 }
 
 // How many requests there were, and how many answers were not those recorded.
-#[derive(Clone, Copy)]
+#[derive(Clone, Copy, Default)]
 pub struct Tally {
     pub requests: u64,
     pub differences: u64,
@@ -107,10 +107,7 @@ fn one(memory: &mut Memory, state: &mut State, input: &Input, mode: Mode, tally:
 // Serves all lines, of which the first n bytes are read already. The turns are counted, so that the loop ends.
 pub fn serve(memory: &mut Memory, input: &mut [u8], n: usize, mode: Mode) -> Tally {
     let mut state = State::start();
-    let mut tally = Tally {
-        requests: 0,
-        differences: 0,
-    };
+    let mut tally = Tally::default();
     let mut reader = Reader::new(input, n);
     let mut line = Input::new();
     for _ in 0..u64::MAX {
