@@ -1,7 +1,13 @@
 // The hashers by their numbers.
+ghost use Rattle.std.specs.Prelude.{◌≡◌, ◌↔◌, ◌≤◌, IsSome, IfSome};
+ghost use Rattle.forms.specs.Hashers.{number_of};
+
 use hashers::Hasher;
 
-pub fn hasher_of(number: u64) -> Option<Hasher> {
+pub fn hasher_of(number: u64) -> Option<Hasher>
+    ensures known { IsSome result ↔ (1 ≤ number) × (number ≤ 3) }
+    ensures value { IfSome result (λ hasher. number_of hasher ≡ number) }
+{
     match number {
         1 => Some(Hasher::Simple),
         2 => Some(Hasher::Murmur),
@@ -10,7 +16,9 @@ pub fn hasher_of(number: u64) -> Option<Hasher> {
     }
 }
 
-pub fn number_of(hasher: Hasher) -> u64 {
+pub fn number_of(hasher: Hasher) -> u64
+    ensures { result ≡ number_of hasher }
+{
     match hasher {
         Hasher::Simple => 1,
         Hasher::Murmur => 2,

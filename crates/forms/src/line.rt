@@ -1,39 +1,59 @@
 // A line of text in a fixed place. What does not fit is left out.
-ghost use Rattle.std.specs.Prelude.{◌≤◌};
+ghost use Rattle.std.specs.Prelude.{◌≡◌, ◌≤◌, ◌↔◌, ℕ, List, [], ◌++◌, length, take, IsTrue};
 
 use std::fmt;
+use std::marker::Model;
 
 // Standard output.
 const STDOUT_FILENO: i32 = 1;
 
-#[derive(Clone, Copy)]
+#[derive(Drop)]
 pub struct Line<const N: usize> {
     bytes: [u8; N],
     used: usize,
-    ghost within: { used ≤ N },
+}
+
+// Clauses see the bytes that are used.
+impl<const N: usize> Model for Line<N> {
+    ghost Value = { List ℕ };
+
+    ghost view = { λ line. take line.used line.bytes };
+
+    ghost invariant = { λ line. line.used ≤ N };
 }
 
 impl<const N: usize> Line<N> {
-    pub fn new() -> Line<N> {
+    pub fn new() -> Line<N>
+        ensures { result ≡ [] }
+    {
         Line {
             bytes: [0; N],
             used: 0,
         }
     }
 
-    pub fn is_empty(&self) -> bool {
+    pub fn is_empty(&self) -> bool
+        ensures { IsTrue result ↔ (self.now ≡ []) }
+    {
         self.used == 0
     }
 
-    pub fn is_full(&self) -> bool {
+    pub fn is_full(&self) -> bool
+        ensures full { IsTrue result ↔ (length self.now ≡ N) }
+        ensures within { length self.now ≤ N }
+    {
         self.used == N
     }
 
-    pub fn clear(&mut self) {
+    pub fn clear(&mut self)
+        ensures { self.new ≡ [] }
+    {
         self.used = 0;
     }
 
-    pub fn extend(&mut self, bytes: &[u8]) {
+    pub fn extend(&mut self, bytes: &[u8])
+        ensures { self.new ≡ take N (self.old ++ bytes.now) }
+    {
         let used = self.used;
         let n = bytes.len().min(N - used);
         let room = &mut self.bytes[..];
@@ -41,7 +61,9 @@ impl<const N: usize> Line<N> {
         self.used = used + n;
     }
 
-    pub fn as_slice(&self) -> &[u8] {
+    pub fn as_slice(&self) -> &[u8]
+        ensures { result.now ≡ self.now }
+    {
         &self.bytes[..self.used]
     }
 
@@ -53,6 +75,8 @@ impl<const N: usize> Line<N> {
 }
 
 impl<const N: usize> fmt::Write for Line<N> {
+    ghost write_str_gives = { λ before text after. after ≡ take N (before ++ text) };
+
     fn write_str(&mut self, text: &str) -> fmt::Result {
         self.extend(text.as_bytes());
         Ok(())

@@ -1,4 +1,6 @@
 // The memory that requests work on, and how much of it is lent.
+ghost use Rattle.std.specs.Prelude.{◌≡◌, ◌↔◌, ◌≤◌, ◌*◌, IsSome, IfSome, length};
+
 use forms::digest::mix_slice;
 
 // So many words, and so many deltas.
@@ -30,7 +32,11 @@ pub const SPARE_ROOM: Lent = Lent {
 
 impl Lent {
     // So many, where there is room for them.
-    pub fn new(words: u64, deltas: u64, room: Lent) -> Option<Lent> {
+    pub fn new(words: u64, deltas: u64, room: Lent) -> Option<Lent>
+        ensures room { IsSome result ↔ (words ≤ room.words) × (deltas ≤ room.deltas) }
+        ensures words { IfSome result (λ lent. lent.words ≡ words) }
+        ensures deltas { IfSome result (λ lent. lent.deltas ≡ deltas) }
+    {
         let lent = Lent {
             words: words as usize,
             deltas: deltas as usize,
@@ -39,7 +45,11 @@ impl Lent {
     }
 
     // 3 words and 2 deltas for each cell.
-    pub fn of_cells(cells: u64, room: Lent) -> Option<Lent> {
+    pub fn of_cells(cells: u64, room: Lent) -> Option<Lent>
+        ensures room { IsSome result ↔ (3 * cells ≤ room.words) × (2 * cells ≤ room.deltas) }
+        ensures words { IfSome result (λ lent. lent.words ≡ 3 * cells) }
+        ensures deltas { IfSome result (λ lent. lent.deltas ≡ 2 * cells) }
+    {
         Lent::new(cells.checked_mul(3)?, cells.checked_mul(2)?, room)
     }
 }
@@ -59,6 +69,7 @@ impl Arrays<'_> {
         call: F,
     ) -> Option<R>
         requires { F.IsAlwaysCallable call }
+        ensures { IsSome result ↔ (lent.words ≤ length self.old.words.now) × (lent.deltas ≤ length self.old.deltas.now) }
     {
         let words = self.words.get_mut(..lent.words)?;
         let deltas = self.deltas.get_mut(..lent.deltas)?;
