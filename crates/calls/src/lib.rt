@@ -1,207 +1,148 @@
-// The calls on a table of fixed size as requests: kinds 16 to 31.
+// The calls on a table of fixed size as requests.
 #![tactic(auto)]
 
 use checker::CheckSaid;
-use forms::told::Told;
-use forms::{Request, kinds, said, told};
-use hashers::Hasher;
+use forms::hasher::hasher_of;
+use forms::{Kind, Request, Said, Told};
 use hashmap::{ClearSaid, FindSaid, InsertSaid, RemoveSaid, Table};
 use hashreads::{CapacitySaid, ContainsSaid, KeyValueSaid};
 
-// What a call said, and the record after it.
-#[derive(Clone, Copy)]
-pub struct Called {
-    pub told: Told,
-    pub table: Table,
-}
-
-#[derive(Clone, Copy)]
-pub enum Named {
-    Is(Hasher),
-    None,
-}
-
-fn hasher_of(number: u64) -> Named {
-    match number {
-        1 => Named::Is(Hasher::Simple),
-        2 => Named::Is(Hasher::Murmur),
-        3 => Named::Is(Hasher::Fnv),
-        _ => Named::None,
-    }
-}
-
-// ---- each answer as a number with its values
+// ---- each answer as what is told
 
 fn inserted(answer: InsertSaid, n: usize) -> Told {
     match answer {
-        InsertSaid::New => told::counted(said::NEW, 0, n),
-        InsertSaid::Replaced(old) => told::counted(said::REPLACED, old, n),
-        InsertSaid::Revived => told::counted(said::REVIVED, 0, n),
-        InsertSaid::Shape => told::counted(said::SHAPE, 0, n),
-        InsertSaid::ZeroHash => told::counted(said::ZERO_HASH, 0, n),
-        InsertSaid::Null => told::counted(said::NULL, 0, n),
-        InsertSaid::Full(at) => told::counted(said::FULL, at.position, n),
-        InsertSaid::Broken => told::counted(said::BROKEN, 0, n),
+        InsertSaid::New => Told::counted(Said::New, 0, n),
+        InsertSaid::Replaced(old) => Told::counted(Said::Replaced, old, n),
+        InsertSaid::Revived => Told::counted(Said::Revived, 0, n),
+        InsertSaid::Shape => Told::counted(Said::Shape, 0, n),
+        InsertSaid::ZeroHash => Told::counted(Said::ZeroHash, 0, n),
+        InsertSaid::Null => Told::counted(Said::Null, 0, n),
+        InsertSaid::Full(at) => Told::counted(Said::Full, at.position, n),
+        InsertSaid::Broken => Told::counted(Said::Broken, 0, n),
     }
 }
 
 fn found(answer: FindSaid, n: usize) -> Told {
     match answer {
-        FindSaid::Found(value) => told::counted(said::FOUND, value, n),
-        FindSaid::Absent => told::counted(said::ABSENT, 0, n),
-        FindSaid::Shape => told::counted(said::SHAPE, 0, n),
-        FindSaid::ZeroHash => told::counted(said::ZERO_HASH, 0, n),
-        FindSaid::Broken => told::counted(said::BROKEN, 0, n),
+        FindSaid::Found(value) => Told::counted(Said::Found, value, n),
+        FindSaid::Absent => Told::counted(Said::Absent, 0, n),
+        FindSaid::Shape => Told::counted(Said::Shape, 0, n),
+        FindSaid::ZeroHash => Told::counted(Said::ZeroHash, 0, n),
+        FindSaid::Broken => Told::counted(Said::Broken, 0, n),
     }
 }
 
 fn removed(answer: RemoveSaid, n: usize) -> Told {
     match answer {
-        RemoveSaid::Removed(old) => told::counted(said::REMOVED, old, n),
-        RemoveSaid::Absent => told::counted(said::ABSENT, 0, n),
-        RemoveSaid::Shape => told::counted(said::SHAPE, 0, n),
-        RemoveSaid::ZeroHash => told::counted(said::ZERO_HASH, 0, n),
-        RemoveSaid::Broken => told::counted(said::BROKEN, 0, n),
+        RemoveSaid::Removed(old) => Told::counted(Said::Removed, old, n),
+        RemoveSaid::Absent => Told::counted(Said::Absent, 0, n),
+        RemoveSaid::Shape => Told::counted(Said::Shape, 0, n),
+        RemoveSaid::ZeroHash => Told::counted(Said::ZeroHash, 0, n),
+        RemoveSaid::Broken => Told::counted(Said::Broken, 0, n),
     }
 }
 
 fn contained(answer: ContainsSaid) -> Told {
     match answer {
-        ContainsSaid::Yes => told::plain(said::YES),
-        ContainsSaid::No => told::plain(said::NO),
-        ContainsSaid::Shape => told::plain(said::SHAPE),
-        ContainsSaid::ZeroHash => told::plain(said::ZERO_HASH),
-        ContainsSaid::Broken => told::plain(said::BROKEN),
+        ContainsSaid::Yes => Told::plain(Said::Yes),
+        ContainsSaid::No => Told::plain(Said::No),
+        ContainsSaid::Shape => Told::plain(Said::Shape),
+        ContainsSaid::ZeroHash => Told::plain(Said::ZeroHash),
+        ContainsSaid::Broken => Told::plain(Said::Broken),
     }
 }
 
 fn paired(answer: KeyValueSaid) -> Told {
     match answer {
         KeyValueSaid::Pair(p) => Told {
-            said: said::PAIR,
-            first: p.key,
             second: p.value,
-            third: 0,
-            looked: 0,
+            ..Told::carrying(Said::Pair, p.key)
         },
-        KeyValueSaid::Absent => told::plain(said::ABSENT),
-        KeyValueSaid::Shape => told::plain(said::SHAPE),
-        KeyValueSaid::ZeroHash => told::plain(said::ZERO_HASH),
-        KeyValueSaid::Broken => told::plain(said::BROKEN),
+        KeyValueSaid::Absent => Told::plain(Said::Absent),
+        KeyValueSaid::Shape => Told::plain(Said::Shape),
+        KeyValueSaid::ZeroHash => Told::plain(Said::ZeroHash),
+        KeyValueSaid::Broken => Told::plain(Said::Broken),
     }
 }
 
 fn sized(answer: CapacitySaid) -> Told {
     match answer {
-        CapacitySaid::Cells(n) => told::carrying(said::NUMBER, n as u64),
-        CapacitySaid::Shape => told::plain(said::SHAPE),
+        CapacitySaid::Cells(n) => Told::carrying(Said::Number, n as u64),
+        CapacitySaid::Shape => Told::plain(Said::Shape),
     }
 }
 
 fn checked(answer: CheckSaid) -> Told {
     match answer {
-        CheckSaid::Sound => told::plain(said::SOUND),
-        CheckSaid::Shape => told::plain(said::SHAPE),
-        CheckSaid::Unsound => told::plain(said::UNSOUND),
+        CheckSaid::Sound => Told::plain(Said::Sound),
+        CheckSaid::Shape => Told::plain(Said::Shape),
+        CheckSaid::Unsound => Told::plain(Said::Unsound),
     }
 }
 
 // A refused clear leaves the record as it was.
-fn cleared(answer: ClearSaid, table: Table) -> Called {
+fn cleared(answer: ClearSaid, table: &mut Table) -> Told {
     match answer {
-        ClearSaid::Cleared(fresh) => Called {
-            told: told::plain(said::CLEARED),
-            table: fresh,
-        },
-        ClearSaid::Shape => Called {
-            told: told::plain(said::SHAPE),
-            table,
-        },
+        ClearSaid::Cleared(fresh) => {
+            *table = fresh;
+            Told::plain(Said::Cleared)
+        }
+        ClearSaid::Shape => Told::plain(Said::Shape),
     }
 }
 
-fn is_empty(table: Table) -> Told {
-    if hashreads::is_empty(table) {
-        return told::plain(said::YES);
-    }
-    told::plain(said::NO)
+fn answered(yes: bool) -> Told {
+    Told::plain(if yes { Said::Yes } else { Said::No })
 }
 
 // ---- the calls
 
-fn clear(words: &mut [u64], deltas: &mut [u8], table: Table, hasher: u64) -> Called {
-    match hasher_of(hasher) {
-        Named::Is(h) => cleared(hashmap::clear(words, deltas, h), table),
-        Named::None => Called {
-            told: told::plain(said::UNKNOWN),
-            table,
-        },
-    }
+fn clear(words: &mut [u64], deltas: &mut [u8], table: &mut Table, hasher: u64) -> Option<Told> {
+    let hasher = hasher_of(hasher)?;
+    Some(cleared(hashmap::clear(words, deltas, hasher), table))
 }
 
-fn insert(words: &mut [u64], deltas: &mut [u8], table: Table, key: u64, value: u64) -> Called {
-    let answer = hashmap::insert(words, deltas, table, key, value);
-    let said = answer.said;
-    let next = answer.table;
-    Called {
-        told: inserted(said, answer.looked),
-        table: next,
-    }
+fn insert(words: &mut [u64], deltas: &mut [u8], table: &mut Table, key: u64, value: u64) -> Told {
+    let answer = hashmap::insert(words, deltas, *table, key, value);
+    *table = answer.table;
+    inserted(answer.said, answer.looked)
 }
 
 fn find(words: &[u64], deltas: &[u8], table: Table, key: u64) -> Told {
     let answer = hashmap::find(words, deltas, table, key);
-    let said = answer.said;
-    found(said, answer.looked)
+    found(answer.said, answer.looked)
 }
 
-fn remove(words: &mut [u64], deltas: &[u8], table: Table, key: u64) -> Called {
-    let answer = hashmap::remove(words, deltas, table, key);
-    let said = answer.said;
-    let next = answer.table;
-    Called {
-        told: removed(said, answer.looked),
-        table: next,
-    }
+fn remove(words: &mut [u64], deltas: &[u8], table: &mut Table, key: u64) -> Told {
+    let answer = hashmap::remove(words, deltas, *table, key);
+    *table = answer.table;
+    removed(answer.said, answer.looked)
 }
 
-// The calls that leave all.
-fn asked(words: &[u64], deltas: &[u8], table: Table, kind: u64, key: u64) -> Told {
-    match kind {
-        kinds::FIND => find(words, deltas, table, key),
-        kinds::CAPACITY => sized(hashreads::capacity(words, deltas)),
-        kinds::CONTAINS_KEY => contained(hashreads::contains_key(words, deltas, table, key)),
-        kinds::CHECK => checked(checker::check(words, deltas, table)),
-        kinds::GET_KEY_VALUE => paired(hashreads::get_key_value(words, deltas, table, key)),
-        _ => of_record(table, kind, key),
-    }
-}
-
-// The calls that are lent no slice.
-fn of_record(table: Table, kind: u64, key: u64) -> Told {
-    let hasher = table.hasher;
-    match kind {
-        kinds::LEN => told::carrying(said::NUMBER, hashreads::len(table) as u64),
-        kinds::IS_EMPTY => is_empty(table),
-        kinds::HASH => told::carrying(said::NUMBER, hashers::hash_of(hasher, key)),
-        _ => told::plain(said::UNKNOWN),
-    }
-}
-
-pub fn serve(words: &mut [u64], deltas: &mut [u8], table: Table, request: Request) -> Called {
-    let kind = request.kind;
-    let a = request.a;
-    let b = request.b;
-    match kind {
-        kinds::TABLE => clear(words, deltas, table, b),
-        kinds::CLEAR => clear(words, deltas, table, a),
-        kinds::INSERT => insert(words, deltas, table, a, b),
-        kinds::REMOVE => remove(words, deltas, table, a),
-        _ => Called {
-            told: asked(words, deltas, table, kind, a),
-            table,
-        },
-    }
+// Serves a request on a table of fixed size; nothing where it is none.
+pub fn serve(
+    words: &mut [u64],
+    deltas: &mut [u8],
+    table: &mut Table,
+    request: Request,
+) -> Option<Told> {
+    let Request { kind, a, b, .. } = request;
+    let record = *table;
+    Some(match kind {
+        Kind::Table => clear(words, deltas, table, b)?,
+        Kind::Clear => clear(words, deltas, table, a)?,
+        Kind::Insert => insert(words, deltas, table, a, b),
+        Kind::Remove => remove(words, deltas, table, a),
+        Kind::Find => find(words, deltas, record, a),
+        Kind::Len => Told::carrying(Said::Number, hashreads::len(record) as u64),
+        Kind::IsEmpty => answered(hashreads::is_empty(record)),
+        Kind::Capacity => sized(hashreads::capacity(words, deltas)),
+        Kind::ContainsKey => contained(hashreads::contains_key(words, deltas, record, a)),
+        Kind::GetKeyValue => paired(hashreads::get_key_value(words, deltas, record, a)),
+        Kind::Hash => Told::carrying(Said::Number, hashers::hash_of(record.hasher, a)),
+        Kind::Check => checked(checker::check(words, deltas, record)),
+        _ => return None,
+    })
 }
 
 // How many cells the slices hold; 0 for a bad shape.

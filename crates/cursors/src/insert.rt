@@ -1,23 +1,21 @@
 // The calls that insert: entry_insert VALUE, or_insert VALUE, insert_entry VALUE. The entry that they hand back is held.
-use crate::{Hand, Handed};
 use cells::Table;
 use entryinsert::{EntryInsertAnswer, EntryInsertSaid};
-use forms::told::Told;
-use forms::{hand, said, told};
+use forms::{Kind, Said, Told};
 use hashentry::{Entry, Place};
 
 fn inserted(answer: EntryInsertSaid) -> Told {
     match answer {
-        EntryInsertSaid::New => told::plain(said::NEW),
-        EntryInsertSaid::Replaced(old) => told::carrying(said::REPLACED, old),
-        EntryInsertSaid::Revived => told::plain(said::REVIVED),
-        EntryInsertSaid::Found(value) => told::carrying(said::FOUND, value),
-        EntryInsertSaid::Shape => told::plain(said::SHAPE),
-        EntryInsertSaid::ZeroHash => told::plain(said::ZERO_HASH),
-        EntryInsertSaid::Null => told::plain(said::NULL),
-        EntryInsertSaid::Full(at) => told::carrying(said::FULL, at.position),
-        EntryInsertSaid::Broken => told::plain(said::BROKEN),
-        EntryInsertSaid::Stale => told::plain(said::STALE),
+        EntryInsertSaid::New => Told::plain(Said::New),
+        EntryInsertSaid::Replaced(old) => Told::carrying(Said::Replaced, old),
+        EntryInsertSaid::Revived => Told::plain(Said::Revived),
+        EntryInsertSaid::Found(value) => Told::carrying(Said::Found, value),
+        EntryInsertSaid::Shape => Told::plain(Said::Shape),
+        EntryInsertSaid::ZeroHash => Told::plain(Said::ZeroHash),
+        EntryInsertSaid::Null => Told::plain(Said::Null),
+        EntryInsertSaid::Full(at) => Told::carrying(Said::Full, at.position),
+        EntryInsertSaid::Broken => Told::plain(Said::Broken),
+        EntryInsertSaid::Stale => Told::plain(Said::Stale),
     }
 }
 
@@ -25,11 +23,9 @@ fn inserted(answer: EntryInsertSaid) -> Told {
 fn with_place(told: Told, place: Place) -> Told {
     match place {
         Place::Occupied(cell) => Told {
-            said: told.said,
-            first: told.first,
             second: 1,
             third: cell.index as u64,
-            looked: 0,
+            ..told
         },
         Place::Vacant => told,
     }
@@ -40,12 +36,12 @@ fn call(
     deltas: &mut [u8],
     table: Table,
     entry: Entry,
-    kind: u64,
+    kind: Kind,
     value: u64,
 ) -> EntryInsertAnswer {
     match kind {
-        hand::ENTRY_INSERT => entryinsert::insert(words, deltas, table, entry, value),
-        hand::OR_INSERT => entryinsert::or_insert(words, deltas, table, entry, value),
+        Kind::EntryInsert => entryinsert::insert(words, deltas, table, entry, value),
+        Kind::OrInsert => entryinsert::or_insert(words, deltas, table, entry, value),
         _ => entryinsert::insert_entry(words, deltas, table, entry, value),
     }
 }
@@ -53,20 +49,13 @@ fn call(
 pub fn serve(
     words: &mut [u64],
     deltas: &mut [u8],
-    table: Table,
-    held: Hand,
-    kind: u64,
+    table: &mut Table,
+    entry: &mut Entry,
+    kind: Kind,
     value: u64,
-) -> Handed {
-    let entry = held.entry;
-    let answer = call(words, deltas, table, entry, kind, value);
-    let said = answer.said;
-    let next = answer.table;
-    let after = answer.entry;
-    let place = after.place;
-    Handed {
-        told: with_place(inserted(said), place),
-        table: next,
-        hand: held.holding(after),
-    }
+) -> Told {
+    let answer = call(words, deltas, *table, *entry, kind, value);
+    *table = answer.table;
+    *entry = answer.entry;
+    with_place(inserted(answer.said), answer.entry.place)
 }

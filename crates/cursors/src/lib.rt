@@ -1,13 +1,12 @@
-// The cursor, setting and entries as requests: kinds 64 to 79. A cursor and an entry are held between requests, so that an
-// entry can be used late.
+// The cursor, setting and entries as requests. A cursor and an entry are held between requests, so that an entry can be used
+// late.
 #![tactic(auto)]
 
 mod entry;
 mod insert;
 
 use cells::Table;
-use forms::told::Told;
-use forms::{Request, hand, said, told};
+use forms::{Kind, Request, Said, Told};
 use hashentry::{CellAt, Entry, Place};
 use hashiter::{Cursor, SetSaid, StepSaid};
 
@@ -16,14 +15,6 @@ use hashiter::{Cursor, SetSaid, StepSaid};
 pub struct Hand {
     pub cursor: Cursor,
     pub entry: Entry,
-}
-
-// What a call said, and the record and what is held after it.
-#[derive(Clone, Copy)]
-pub struct Handed {
-    pub told: Told,
-    pub table: Table,
-    pub hand: Hand,
 }
 
 impl Hand {
@@ -38,104 +29,72 @@ impl Hand {
             },
         }
     }
-
-    // The same with another cursor.
-    fn moved(self, position: usize) -> Hand {
-        let entry = self.entry;
-        Hand {
-            cursor: Cursor { position },
-            entry,
-        }
-    }
-
-    // The same with another entry.
-    pub fn holding(self, entry: Entry) -> Hand {
-        let cursor = self.cursor;
-        Hand { cursor, entry }
-    }
 }
 
 // Said of a step that left the cursor there.
 fn stepped(answer: StepSaid, position: usize) -> Told {
     match answer {
         StepSaid::Next(cell) => Told {
-            said: hand::NEXT,
-            first: cell.index as u64,
             second: cell.key,
             third: cell.value,
-            looked: 0,
+            ..Told::carrying(Said::Next, cell.index as u64)
         },
-        StepSaid::End => told::carrying(hand::AT_END, position as u64),
-        StepSaid::Shape => told::carrying(said::SHAPE, position as u64),
+        StepSaid::End => Told::carrying(Said::AtEnd, position as u64),
+        StepSaid::Shape => Told::carrying(Said::Shape, position as u64),
     }
 }
 
 // step: the cursor goes on to the next live cell.
-fn step(words: &[u64], deltas: &[u8], table: Table, held: Hand) -> Handed {
-    let cursor = held.cursor;
-    let answer = cursor.step(words, deltas, table);
-    let said = answer.said;
-    let next = answer.cursor;
-    let position = next.position;
-    Handed {
-        told: stepped(said, position),
-        table,
-        hand: held.moved(position),
-    }
+fn step(words: &[u64], deltas: &[u8], table: Table, held: &mut Hand) -> Told {
+    let answer = held.cursor.step(words, deltas, table);
+    held.cursor = answer.cursor;
+    stepped(answer.said, answer.cursor.position)
 }
 
 fn set(answer: SetSaid) -> Told {
     match answer {
-        SetSaid::Replaced(old) => told::carrying(said::REPLACED, old),
-        SetSaid::Absent => told::plain(said::ABSENT),
-        SetSaid::Shape => told::plain(said::SHAPE),
-        SetSaid::Null => told::plain(said::NULL),
+        SetSaid::Replaced(old) => Told::carrying(Said::Replaced, old),
+        SetSaid::Absent => Told::plain(Said::Absent),
+        SetSaid::Shape => Told::plain(Said::Shape),
+        SetSaid::Null => Told::plain(Said::Null),
     }
 }
 
-// cursor P, forge_occupied KEY HASH CELL, forge_vacant KEY HASH: what is held from now on.
-fn forged(held: Hand, request: Request) -> Hand {
-    let kind = request.kind;
-    let key = request.a;
-    let hash = request.b;
-    match kind {
-        hand::CURSOR => held.moved(request.a as usize),
-        hand::FORGE_OCCUPIED => {
-            let index = request.c as usize;
-            let place = Place::Occupied(CellAt { index });
-            held.holding(Entry { key, hash, place })
-        }
-        _ => held.holding(Entry {
-            key,
-            hash,
-            place: Place::Vacant,
-        }),
-    }
+// cursor P: the cursor is there from now on.
+fn move_to(held: &mut Hand, position: u64) -> Told {
+    held.cursor = Cursor {
+        position: position as usize,
+    };
+    Told::plain(Said::Done)
 }
 
+// forge_occupied KEY HASH CELL, forge_vacant KEY HASH: the entry that is held from now on.
+fn forge(held: &mut Hand, key: u64, hash: u64, place: Place) -> Told {
+    held.entry = Entry { key, hash, place };
+    Told::plain(Said::Done)
+}
+
+// Serves a request for the cursor, setting or an entry; nothing where it is none.
 pub fn serve(
     words: &mut [u64],
     deltas: &mut [u8],
-    table: Table,
-    held: Hand,
+    table: &mut Table,
+    held: &mut Hand,
     request: Request,
-) -> Handed {
-    let kind = request.kind;
+) -> Option<Told> {
+    let Request { kind, a, b, c, .. } = request;
     match kind {
-        hand::STEP => step(words, deltas, table, held),
-        hand::SET => Handed {
-            told: set(hashiter::set_value(words, deltas, table, request.a as usize, request.b)),
-            table,
-            hand: held,
-        },
-        hand::CURSOR | hand::FORGE_OCCUPIED | hand::FORGE_VACANT => Handed {
-            told: told::plain(said::DONE),
-            table,
-            hand: forged(held, request),
-        },
-        hand::ENTRY_INSERT | hand::OR_INSERT | hand::INSERT_ENTRY => {
-            insert::serve(words, deltas, table, held, kind, request.a)
+        Kind::Cursor => Some(move_to(held, a)),
+        Kind::Step => Some(step(words, deltas, *table, held)),
+        Kind::Set => Some(set(hashiter::set_value(words, deltas, *table, a as usize, b))),
+        Kind::ForgeOccupied => {
+            let place = Place::Occupied(CellAt { index: c as usize });
+            Some(forge(held, a, b, place))
         }
-        _ => entry::serve(words, deltas, table, held, request),
+        Kind::ForgeVacant => Some(forge(held, a, b, Place::Vacant)),
+        Kind::EntryInsert | Kind::OrInsert | Kind::InsertEntry => {
+            Some(insert::serve(words, deltas, table, &mut held.entry, kind, a))
+        }
+        _ => entry::serve(words, deltas, table, &mut held.entry, kind, a),
     }
 }

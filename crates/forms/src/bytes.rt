@@ -1,77 +1,34 @@
 // The compact form: a request is 40 bytes, an answer 72, both little-endian numbers of 8 bytes each.
-use crate::{Answer, Request};
-use std::num::wrapping_add_usize;
-use util::{Loaded, load_u64_le};
+use crate::hasher::number_of;
+use crate::{Answer, Kind, Request};
 
-// The number in the 8 bytes from `at`; 0 where they are not all there.
-fn number_at(bytes: &[u8], at: usize) -> u64 {
-    if bytes.len() < 8 {
-        return 0;
+// The request; nothing where its number is no kind.
+pub fn read(bytes: &[u8; 40]) -> Option<Request> {
+    let mut numbers = [0; 5];
+    for (number, eight) in numbers.iter_mut().zip(bytes.as_chunks().0) {
+        *number = u64::from_le_bytes(*eight);
     }
-    if bytes.len() - 8 < at {
-        return 0;
-    }
-    match load_u64_le(&bytes[at..at + 8]) {
-        Loaded::Number(n) => n,
-        Loaded::Length => 0,
-    }
+    let [kind, a, b, c, d] = numbers;
+    let kind = Kind::try_from(kind).ok()?;
+    Some(Request { kind, a, b, c, d })
 }
 
-// The request in the 40 bytes from `at`.
-pub fn read(bytes: &[u8], at: usize) -> Request {
-    if bytes.len() < at {
-        return of_none();
-    }
-    let rest = &bytes[at..];
-    Request {
-        kind: number_at(rest, 0),
-        a: number_at(rest, 8),
-        b: number_at(rest, 16),
-        c: number_at(rest, 24),
-        d: number_at(rest, 32),
-    }
-}
-
-fn of_none() -> Request {
-    Request {
-        kind: 0,
-        a: 0,
-        b: 0,
-        c: 0,
-        d: 0,
-    }
-}
-
-// Puts the low byte of a number at `at`, where that is there.
-fn put_byte(bytes: &mut [u8; 36864], at: usize, x: u64) {
-    if at < 36864 {
-        bytes[at] = (x % 256) as u8;
-    }
-}
-
-// Puts a number into the 8 bytes from `at`.
-fn put(bytes: &mut [u8; 36864], at: usize, x: u64) {
-    let mut rest = x;
-    for i in 0..8usize {
-        put_byte(bytes, wrapping_add_usize(at, i), rest);
-        rest /= 256;
-    }
-}
-
-// Puts an answer into the 72 bytes from `at`.
-pub fn write(bytes: &mut [u8; 36864], at: usize, answer: Answer) {
+pub fn write(answer: &Answer) -> [u8; 72] {
+    let told = answer.told;
     let numbers = [
-        answer.said,
-        answer.first,
-        answer.second,
-        answer.third,
-        answer.looked,
-        answer.hasher,
+        told.said as u64,
+        told.first,
+        told.second,
+        told.third,
+        told.looked,
+        number_of(answer.hasher),
         answer.live,
         answer.capacity,
-        answer.digest,
+        answer.digest.unwrap_or(0),
     ];
-    for i in 0..9usize {
-        put(bytes, wrapping_add_usize(at, 8 * i), numbers[i]);
+    let mut bytes = [0; 72];
+    for (eight, number) in bytes.as_chunks_mut().0.iter_mut().zip(numbers) {
+        *eight = number.to_le_bytes();
     }
+    bytes
 }

@@ -1,63 +1,89 @@
-// A line of text that is being made: an array, and how much of it is used. What does not fit is left out.
-use check::same;
+// A line of text in a fixed place. What does not fit is left out.
+ghost use Rattle.std.specs.Prelude.{◌≡◌, ◌≤◌, ◌↔◌, ℕ, List, [], ◌++◌, length, take, IsTrue};
+
+use std::fmt;
+use std::marker::Model;
 
 // Standard output.
 const STDOUT_FILENO: i32 = 1;
 
-fn push(line: &mut [u8; 512], used: usize, byte: u8) -> usize {
-    if used < 512 {
-        line[used] = byte;
-        return used + 1;
+#[derive(Drop)]
+pub struct Line<const N: usize> {
+    bytes: [u8; N],
+    used: usize,
+}
+
+// Clauses see the bytes that are used.
+impl<const N: usize> Model for Line<N> {
+    ghost Value = { List ℕ };
+
+    ghost view = { λ line. take line.used line.bytes };
+
+    ghost invariant = { λ line. line.used ≤ N };
+}
+
+impl<const N: usize> Line<N> {
+    pub fn new() -> Line<N>
+        ensures { result ≡ [] }
+    {
+        Line {
+            bytes: [0; N],
+            used: 0,
+        }
     }
-    used
-}
 
-pub fn text(line: &mut [u8; 512], used: usize, bytes: &[u8]) -> usize {
-    let mut n = used;
-    for i in 0..bytes.len() {
-        n = push(line, n, bytes[i]);
+    pub fn is_empty(&self) -> bool
+        ensures { IsTrue result ↔ (self.now ≡ []) }
+    {
+        self.used == 0
     }
-    n
-}
 
-pub fn decimal(line: &mut [u8; 512], used: usize, x: u64) -> usize {
-    let mut digits = [0u8; 20];
-    let k = io::decimal(x, &mut digits);
-    text(line, used, &digits[..k])
-}
+    pub fn is_full(&self) -> bool
+        ensures full { IsTrue result ↔ (length self.now ≡ N) }
+        ensures within { length self.now ≤ N }
+    {
+        self.used == N
+    }
 
-pub fn hex(line: &mut [u8; 512], used: usize, x: u64) -> usize {
-    let mut digits = [0u8; 16];
-    let k = io::hex(x, 16, &mut digits);
-    text(line, used, &digits[..k])
-}
+    pub fn clear(&mut self)
+        ensures { self.new ≡ [] }
+    {
+        self.used = 0;
+    }
 
-// Words, and then a number.
-pub fn labelled(line: &mut [u8; 512], used: usize, label: &[u8], x: u64) -> usize {
-    let n = text(line, used, label);
-    decimal(line, n, x)
-}
+    pub fn extend(&mut self, bytes: &[u8])
+        ensures { self.new ≡ take N (self.old ++ bytes.now) }
+    {
+        let used = self.used;
+        let n = bytes.len().min(N - used);
+        let room = &mut self.bytes[..];
+        room[used..used + n].copy_from_slice(&bytes[..n]);
+        self.used = used + n;
+    }
 
-pub fn write_part(line: &[u8], used: usize) {
-    if used <= line.len() {
-        io::write_all(STDOUT_FILENO, &line[0..used]);
+    pub fn as_slice(&self) -> &[u8]
+        ensures { result.now ≡ self.now }
+    {
+        &self.bytes[..self.used]
+    }
+
+    // Writes the line, and ends it.
+    pub fn print(&mut self) {
+        self.extend(b"\n");
+        print(self.as_slice());
     }
 }
 
-// Writes the line as far as it is made, and ends it.
-pub fn print(line: &mut [u8; 512], used: usize) {
-    let n = push(line, used, b'\n');
-    write_part(line, n);
-}
+impl<const N: usize> fmt::Write for Line<N> {
+    ghost write_str_gives = { λ before text after. after ≡ take N (before ++ text) };
 
-fn is_part(line: &[u8], used: usize, other: &[u8]) -> bool {
-    if used <= line.len() {
-        return same(&line[0..used], other);
+    fn write_str(&mut self, text: &str) -> fmt::Result {
+        self.extend(text.as_bytes());
+        Ok(())
     }
-    false
 }
 
-// Whether the line as far as it is made is the other.
-pub fn is(line: &[u8; 512], used: usize, other: &[u8]) -> bool {
-    is_part(line, used, other)
+// Writes bytes to standard output. A failure goes unseen.
+pub fn print(bytes: &[u8]) {
+    let _ = io::write_all(STDOUT_FILENO, bytes);
 }

@@ -1,97 +1,99 @@
-// What is said: numbers and names. Refusals have document 01's numbers, 1 to 9; 0 is a request that no one knows.
-use crate::hand;
-use crate::line::text;
-use crate::words::entry;
+// What is said: each answer has a number in the compact form and a name in text.
+use std::fmt;
 
-pub const UNKNOWN: u64 = 0;
-
-pub const SHAPE: u64 = 1;
-
-pub const ZERO_HASH: u64 = 2;
-
-pub const NULL: u64 = 3;
-
-pub const FULL: u64 = 4;
-
-pub const BROKEN: u64 = 5;
-
-pub const STALE: u64 = 7;
-
-pub const NO_ROOM: u64 = 6;
-
-pub const UNSOUND: u64 = 9;
-// A request that is no call was carried out.
-pub const DONE: u64 = 16;
-
-pub const NEW: u64 = 17;
-
-pub const REPLACED: u64 = 18;
-
-pub const REVIVED: u64 = 19;
-
-pub const FOUND: u64 = 20;
-
-pub const ABSENT: u64 = 21;
-
-pub const REMOVED: u64 = 22;
-
-pub const CLEARED: u64 = 23;
-// A count or a hash.
-pub const NUMBER: u64 = 24;
-
-pub const YES: u64 = 25;
-
-pub const NO: u64 = 26;
-
-pub const PAIR: u64 = 27;
-
-pub const TAKEN: u64 = 28;
-
-pub const PUT: u64 = 29;
-
-pub const CELL: u64 = 30;
-
-pub const SOUND: u64 = 31;
-
-pub const MOVED: u64 = 40;
-
-pub const PARTS: u64 = 41;
-
-// The name of a number, 20 bytes to each.
-pub fn name(line: &mut [u8; 512], used: usize, said: u64) -> usize {
-    if hand::NEXT <= said {
-        return hand::name(line, used, said);
-    }
-    let names = b"no such request     refused 1 Shape     \
-                  refused 2 Zero hash refused 3 Null      \
-                  refused 4 Full      refused 5 Broken    \
-                  refused 6 NoRoom    refused 7 Stale     \
-                  refused 8 Length    refused 9 Unsound   \
-                  .                   .                   \
-                  .                   .                   \
-                  .                   .                   \
-                  done                New                 \
-                  Replaced            Revived             \
-                  Found               Absent              \
-                  Removed             Cleared             \
-                  Number              yes                 \
-                  no                  Pair                \
-                  Taken               Put                 \
-                  Cell                Sound               \
-                  .                   .                   \
-                  .                   .                   \
-                  .                   .                   \
-                  .                   .                   \
-                  Moved               Parts               ";
-    text(line, used, entry(names, 20 * (said as usize % 1024), 20))
+#[derive(Clone, Copy, Debug, PartialEq, Eq)]
+pub enum Said {
+    // A request that no one knows.
+    Unknown = 0,
+    // Refusals, by document 01's numbers. No request meets 8, Length.
+    Shape = 1,
+    ZeroHash = 2,
+    Null = 3,
+    Full = 4,
+    Broken = 5,
+    NoRoom = 6,
+    Stale = 7,
+    Unsound = 9,
+    // A request that is no call was carried out.
+    Done = 16,
+    // What calls answer.
+    New = 17,
+    Replaced = 18,
+    Revived = 19,
+    Found = 20,
+    Absent = 21,
+    Removed = 22,
+    Cleared = 23,
+    // A count or a hash.
+    Number = 24,
+    Yes = 25,
+    No = 26,
+    Pair = 27,
+    Taken = 28,
+    Put = 29,
+    Cell = 30,
+    Sound = 31,
+    Moved = 40,
+    Parts = 41,
+    // Next: index, key, value. At the end: where the cursor is. Occupied: hash, cell. Vacant: hash.
+    Next = 64,
+    AtEnd = 65,
+    Occupied = 66,
+    Vacant = 67,
 }
 
-// How many values an answer carries, for its text.
-pub fn values(said: u64) -> u64 {
-    match said {
-        FULL | REPLACED | FOUND | REMOVED | NUMBER => 1,
-        PAIR => 2,
-        CELL => 3,
-        _ => hand::values(said),
+impl fmt::Display for Said {
+    fn fmt<W: fmt::Write>(&self, f: &mut fmt::Formatter<W>) -> fmt::Result {
+        f.write_str(match self {
+            Said::Unknown => "no such request",
+            Said::Shape => "refused 1 Shape",
+            Said::ZeroHash => "refused 2 Zero hash",
+            Said::Null => "refused 3 Null",
+            Said::Full => "refused 4 Full",
+            Said::Broken => "refused 5 Broken",
+            Said::NoRoom => "refused 6 NoRoom",
+            Said::Stale => "refused 7 Stale",
+            Said::Unsound => "refused 9 Unsound",
+            Said::Done => "done",
+            Said::New => "New",
+            Said::Replaced => "Replaced",
+            Said::Revived => "Revived",
+            Said::Found => "Found",
+            Said::Absent => "Absent",
+            Said::Removed => "Removed",
+            Said::Cleared => "Cleared",
+            Said::Number => "Number",
+            Said::Yes => "yes",
+            Said::No => "no",
+            Said::Pair => "Pair",
+            Said::Taken => "Taken",
+            Said::Put => "Put",
+            Said::Cell => "Cell",
+            Said::Sound => "Sound",
+            Said::Moved => "Moved",
+            Said::Parts => "Parts",
+            Said::Next => "Next",
+            Said::AtEnd => "End",
+            Said::Occupied => "Occupied",
+            Said::Vacant => "Vacant",
+        })
+    }
+}
+
+impl Said {
+    // How many values such an answer carries, for its text.
+    pub fn values(self) -> usize {
+        match self {
+            Said::Full
+            | Said::Replaced
+            | Said::Found
+            | Said::Removed
+            | Said::Number
+            | Said::AtEnd
+            | Said::Vacant => 1,
+            Said::Pair | Said::Occupied => 2,
+            Said::Cell | Said::Next => 3,
+            _ => 0,
+        }
     }
 }

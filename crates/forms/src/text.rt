@@ -1,122 +1,119 @@
 // A request as a line of text, and an answer behind it.
-use crate::kinds::kind_of;
-use crate::line::{hex, labelled, text};
-use crate::words::{Part, Reading, number, slice, word};
-use crate::{Answer, Request, growing, kinds, said};
+use crate::{Answer, Kind, Request, Told};
+use std::fmt;
 
-// A number in a line, and where what follows starts.
-#[derive(Clone, Copy)]
-struct Taking {
-    number: Reading,
-    to: usize,
+// The number that stands for no value in a cell.
+const NULL: u64 = 0xffff_ffff_ffff_fffe;
+
+// Decimal digits alone; none at all are 0.
+fn decimal(digits: &[u8]) -> Option<u64> {
+    digits.iter().try_fold(0u64, |n, byte| {
+        let digit = byte.checked_sub(b'0').filter(|digit| *digit < 10)?;
+        n.checked_mul(10)?.checked_add(u64::from(digit))
+    })
 }
 
-fn carried(line: &[u8], at: usize) -> Taking {
-    let place = word(line, at);
-    Taking {
-        number: number(slice(line, place)),
-        to: place.to,
+// The number that a word is: digits, digits after a '-' (2^64 less so much), or a name.
+fn number(word: &[u8]) -> Option<u64> {
+    match word {
+        b"off" => Some(0),
+        b"on" | b"simple" => Some(1),
+        b"murmur" => Some(2),
+        b"fnv" => Some(3),
+        b"null" => Some(NULL),
+        [b'-', digits @ ..] => decimal(digits).map(u64::wrapping_neg),
+        digits => decimal(digits),
     }
 }
 
-fn no_request() -> Request {
-    Request {
-        kind: kinds::END,
-        a: 0,
-        b: 0,
-        c: 0,
-        d: 0,
+// The number of a word that may be absent, which is 0.
+fn carried(word: Option<&[u8]>) -> Option<u64> {
+    word.map_or(Some(0), number)
+}
+
+// The request that a line is: a word and up to four numbers, with spaces between.
+pub fn read(line: &[u8]) -> Option<Request> {
+    let mut words = line
+        .split(|byte| *byte == b' ')
+        .filter(|word| !word.is_empty());
+    let kind = str::from_utf8(words.next()?).ok()?;
+    Some(Request {
+        kind: kind.parse::<Kind>().ok()?,
+        a: carried(words.next())?,
+        b: carried(words.next())?,
+        c: carried(words.next())?,
+        d: carried(words.next())?,
+    })
+}
+
+// What was said, and the values that go with it.
+impl fmt::Display for Told {
+    fn fmt<W: fmt::Write>(&self, f: &mut fmt::Formatter<W>) -> fmt::Result {
+        let said = self.said;
+        write!(f, "{said}")?;
+        for value in [self.first, self.second, self.third]
+            .iter()
+            .take(said.values())
+        {
+            write!(f, " {value}")?;
+        }
+        Ok(())
     }
 }
 
-fn request_of(kind: u64, a: Reading, b: Reading, c: Reading, d: Reading) -> Request {
-    let Reading::Is(a) = a else {
-        return no_request();
+// What one kind alone has: a digest of the bucket or of the parts that were handed back, or the moves of an insert.
+fn own<W: fmt::Write>(out: &mut W, kind: Kind, answer: &Answer) -> fmt::Result {
+    let Told { first, second, .. } = answer.told;
+    match kind {
+        Kind::Take => write!(out, ", bucket {first:016x}"),
+        Kind::Grow => write!(out, ", moves {second}"),
+        Kind::Parts => write!(out, ", words {first:016x}, deltas {second:016x}"),
+        _ => Ok(()),
+    }
+}
+
+// Where a growing table is: its size, and its half by the third value.
+fn place<W: fmt::Write>(out: &mut W, answer: &Answer) -> fmt::Result {
+    let size = answer.capacity;
+    let half = if answer.told.third == 0 {
+        "lower"
+    } else {
+        "upper"
     };
-    let Reading::Is(b) = b else {
-        return no_request();
-    };
-    let Reading::Is(c) = c else {
-        return no_request();
-    };
-    let Reading::Is(d) = d else {
-        return no_request();
-    };
-    Request { kind, a, b, c, d }
+    write!(out, ", size {size} {half}")
 }
 
-// The request that a line is: a word and up to four numbers. One of no kind where it is none.
-pub fn read(line: &[u8]) -> Request {
-    let name: Part = word(line, 0);
-    let a = carried(line, name.to);
-    let b = carried(line, a.to);
-    let c = carried(line, b.to);
-    let d = carried(line, c.to);
-    let kind = kind_of(slice(line, name));
-    let a = a.number;
-    let b = b.number;
-    let c = c.number;
-    let d = d.number;
-    request_of(kind, a, b, c, d)
+// The answer to a request of a kind, or to what is no request: what was said, the cells looked at, live, and the digests where
+// there are some.
+pub fn answer<W: fmt::Write>(out: &mut W, kind: Option<Kind>, answer: &Answer) -> fmt::Result {
+    let told = answer.told;
+    let live = answer.live;
+    write!(out, "{told}")?;
+    if let Some(kind) = kind {
+        if kind.looks() {
+            write!(out, ", looked {}", told.looked)?;
+        }
+        own(out, kind, answer)?;
+        if kind.grows() {
+            place(out, answer)?;
+        }
+    }
+    write!(out, ", live {live}")?;
+    if let Some(digest) = answer.digest {
+        write!(out, ", table {digest:016x}")?;
+    }
+    Ok(())
 }
 
-fn values(line: &mut [u8; 512], used: usize, answer: Answer) -> usize {
-    let count = said::values(answer.said);
-    let mut n = used;
-    if 0 < count {
-        n = labelled(line, n, b" ", answer.first);
+// A cell: its three words and its two deltas.
+pub fn cell<W: fmt::Write>(out: &mut W, i: usize, words: [u64; 3], deltas: [u8; 2]) -> fmt::Result {
+    let [hash, key, value] = words;
+    let [first, second] = deltas;
+    write!(out, "  cell {i}: hash {hash}, key {key}, value ")?;
+    if value == NULL {
+        write!(out, "null")?;
+    } else {
+        write!(out, "{value}")?;
     }
-    if 1 < count {
-        n = labelled(line, n, b" ", answer.second);
-    }
-    if 2 < count {
-        n = labelled(line, n, b" ", answer.third);
-    }
-    n
-}
-
-fn digest(line: &mut [u8; 512], used: usize, label: &[u8], digest: u64) -> usize {
-    let n = text(line, used, label);
-    hex(line, n, digest)
-}
-
-// The answer from `used` on: what was said, the cells looked at, live, and the digests where there are some.
-pub fn answer(line: &mut [u8; 512], used: usize, kind: u64, answer: Answer) -> usize {
-    let mut n = said::name(line, used, answer.said);
-    n = values(line, n, answer);
-    if kind == kinds::TAKE {
-        n = digest(line, n, b", bucket ", answer.first);
-    }
-    if kinds::looks(kind) {
-        n = labelled(line, n, b", looked ", answer.looked);
-    }
-    n = growing::place(line, n, kind, answer);
-    n = labelled(line, n, b", live ", answer.live);
-    if answer.digest != 0 {
-        n = digest(line, n, b", table ", answer.digest);
-    }
-    n
-}
-
-fn wide(x: u8) -> u64 {
-    x as u64
-}
-
-// Writes a cell: its three words and its two deltas.
-pub fn cell(i: usize, words: [u64; 3], first: u8, second: u8) {
-    let mut line = [0u8; 512];
-    let n = labelled(&mut line, 0, b"  cell ", i as u64);
-    let n = labelled(&mut line, n, b": hash ", words[0]);
-    let n = labelled(&mut line, n, b", key ", words[1]);
-    let n = value(&mut line, n, words[2]);
-    let n = labelled(&mut line, n, b", deltas ", wide(first));
-    let n = labelled(&mut line, n, b" ", wide(second));
-    crate::line::print(&mut line, n);
-}
-
-fn value(line: &mut [u8; 512], used: usize, x: u64) -> usize {
-    if x == 0xffff_ffff_ffff_fffe {
-        return text(line, used, b", value null");
-    }
-    labelled(line, used, b", value ", x)
+    write!(out, ", deltas {first} {second}")
 }

@@ -1,9 +1,8 @@
-// Buckets out and in: kinds 32 to 39.
+// Buckets out and in.
 use buckets::{Bucket, Cell, CellSaid, ChangeSaid, PutSaid, TakeSaid};
-use cells::Table;
-use forms::digest::{mix, mix_bytes};
-use forms::told::Told;
-use forms::{Request, kinds, said, told};
+use forms::digest::{mix, mix_all};
+use forms::{Kind, Request, Said, Told};
+use hashers::Hasher;
 
 fn mix_cell(digest: u64, cell: Cell) -> u64 {
     mix(mix(mix(digest, cell.hash), cell.key), cell.value)
@@ -11,10 +10,11 @@ fn mix_cell(digest: u64, cell: Cell) -> u64 {
 
 // One number for a bucket: its cells and its deltas.
 fn digest_of(bucket: Bucket) -> u64 {
-    let deltas = bucket.deltas;
-    let two = mix_cell(mix_cell(1, bucket.cells[0]), bucket.cells[1]);
-    let four = mix_cell(mix_cell(two, bucket.cells[2]), bucket.cells[3]);
-    mix_bytes(four, &deltas)
+    let cells = bucket
+        .cells
+        .iter()
+        .fold(1, |digest, cell| mix_cell(digest, *cell));
+    mix_all(cells, &bucket.deltas)
 }
 
 // take B: what is handed back, by its digest; an empty bucket under a refusal.
@@ -23,15 +23,15 @@ fn take(words: &[u64], deltas: &[u8], b: usize) -> Told {
     let answered = answer.said;
     let bucket = answer.bucket;
     match answered {
-        TakeSaid::Taken => told::carrying(said::TAKEN, digest_of(bucket)),
-        TakeSaid::Shape => told::carrying(said::SHAPE, digest_of(bucket)),
+        TakeSaid::Taken => Told::carrying(Said::Taken, digest_of(bucket)),
+        TakeSaid::Shape => Told::carrying(Said::Shape, digest_of(bucket)),
     }
 }
 
 fn put(answer: PutSaid) -> Told {
     match answer {
-        PutSaid::Put => told::plain(said::PUT),
-        PutSaid::Shape => told::plain(said::SHAPE),
+        PutSaid::Put => Told::plain(Said::Put),
+        PutSaid::Shape => Told::plain(Said::Shape),
     }
 }
 
@@ -48,13 +48,11 @@ fn cell(words: &[u64], deltas: &[u8], b: usize, j: usize) -> Told {
     let bucket = answer.bucket;
     match bucket.cell(j) {
         CellSaid::Cell(c) => Told {
-            said: said::CELL,
-            first: c.hash,
             second: c.key,
             third: c.value,
-            looked: 0,
+            ..Told::carrying(Said::Cell, c.hash)
         },
-        CellSaid::Shape => told::plain(said::SHAPE),
+        CellSaid::Shape => Told::plain(Said::Shape),
     }
 }
 
@@ -67,27 +65,32 @@ fn change(words: &mut [u64], deltas: &mut [u8], b: usize, j: usize, new: Cell) -
     let after = changed.bucket;
     match answered {
         ChangeSaid::Changed => put(buckets::put_bucket(words, deltas, b, after)),
-        ChangeSaid::Shape => told::carrying(said::SHAPE, digest_of(after)),
+        ChangeSaid::Shape => Told::carrying(Said::Shape, digest_of(after)),
     }
 }
 
-pub fn serve(words: &mut [u64], deltas: &mut [u8], table: Table, request: Request) -> Told {
-    let kind = request.kind;
-    let b = request.a as usize;
-    let c = request.b as usize;
-    let hasher = table.hasher;
+// Serves a request for buckets; nothing where it is none.
+pub fn serve(
+    words: &mut [u64],
+    deltas: &mut [u8],
+    hasher: Hasher,
+    request: Request,
+) -> Option<Told> {
+    let Request { kind, a, b, c, d } = request;
+    let first = a as usize;
+    let second = b as usize;
     match kind {
-        kinds::TAKE => take(words, deltas, b),
-        kinds::COPY => copy(words, deltas, b, c),
-        kinds::CELL => cell(words, deltas, b, c),
-        kinds::CHANGE => {
+        Kind::Take => Some(take(words, deltas, first)),
+        Kind::Copy => Some(copy(words, deltas, first, second)),
+        Kind::Cell => Some(cell(words, deltas, first, second)),
+        Kind::Change => {
             let new = Cell {
-                hash: hashers::hash_of(hasher, request.c),
-                key: request.c,
-                value: request.d,
+                hash: hashers::hash_of(hasher, c),
+                key: c,
+                value: d,
             };
-            change(words, deltas, b, c, new)
+            Some(change(words, deltas, first, second, new))
         }
-        _ => told::plain(said::UNKNOWN),
+        _ => None,
     }
 }

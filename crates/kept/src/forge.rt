@@ -1,52 +1,26 @@
-// Requests that forge a word or a delta, and the answer to those that change what is kept alone.
-use crate::is_good;
-use forms::told::Told;
-use forms::{Request, kinds, said, told};
+// Requests that forge a word or a delta. Each is nothing where there is no such word or delta, or the number is none for it.
+use crate::Memory;
+use forms::{Kind, Request};
 
-// word I X: word I becomes X.
-fn word(words: &mut [u64], i: u64, x: u64) -> bool {
-    let at = i as usize;
-    if at < words.len() {
-        words[at] = x;
-        return true;
-    }
-    false
+// word I X, spare_word I X: word I becomes X.
+fn word(words: &mut [u64], i: u64, x: u64) -> Option<()> {
+    *words.get_mut(i as usize)? = x;
+    Some(())
 }
 
-// delta I X: delta I becomes X.
-fn delta(deltas: &mut [u8], i: u64, x: u64) -> bool {
-    let at = i as usize;
-    if at < deltas.len() {
-        if x < 256 {
-            deltas[at] = x as u8;
-            return true;
-        }
-    }
-    false
+// delta I X, spare_delta I X: delta I becomes X.
+fn delta(deltas: &mut [u8], i: u64, x: u64) -> Option<()> {
+    *deltas.get_mut(i as usize)? = u8::try_from(x).ok()?;
+    Some(())
 }
 
-fn done(is_done: bool) -> Told {
-    if is_done {
-        return told::plain(said::DONE);
-    }
-    told::plain(said::UNKNOWN)
-}
-
-pub fn serve(
-    words: &mut [u64],
-    deltas: &mut [u8],
-    spare_words: &mut [u64],
-    spare_deltas: &mut [u8],
-    request: Request,
-) -> Told {
-    let kind = request.kind;
-    let a = request.a;
-    let b = request.b;
+pub fn change(memory: &mut Memory, request: Request) -> Option<()> {
+    let Request { kind, a, b, .. } = request;
     match kind {
-        kinds::WORD => done(word(words, a, b)),
-        kinds::DELTA => done(delta(deltas, a, b)),
-        kinds::SPARE_WORD => done(word(spare_words, a, b)),
-        kinds::SPARE_DELTA => done(delta(spare_deltas, a, b)),
-        _ => done(is_good(request)),
+        Kind::Word => word(memory.table.words, a, b),
+        Kind::Delta => delta(memory.table.deltas, a, b),
+        Kind::SpareWord => word(memory.spare.words, a, b),
+        Kind::SpareDelta => delta(memory.spare.deltas, a, b),
+        _ => None,
     }
 }

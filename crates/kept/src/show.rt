@@ -1,30 +1,17 @@
 // The cells that are lent, one line each.
-use crate::State;
-use forms::{Request, kinds, text};
+use crate::{Memory, State};
+use forms::line::Line;
+use forms::text;
 
-// Cell i: its three words at 3i, its first delta at 8*(i/4) + i%4, its second 4 bytes later.
-fn cell(words: &[u64], deltas: &[u8], i: usize) {
-    if i < 131_072 {
-        let at = 3 * i;
-        let first = 8 * (i / 4) + i % 4;
-        if at + 2 < words.len() {
-            if first + 4 < deltas.len() {
-                let three = [words[at], words[at + 1], words[at + 2]];
-                text::cell(i, three, deltas[first], deltas[first + 4]);
-            }
+// Writes so many cells as deltas are lent for. Bucket i/4 has the first deltas of its four cells, and then their second ones.
+pub fn show(memory: &Memory, state: &State) {
+    let cells = memory.table.words.as_chunks().0;
+    let buckets = memory.table.deltas.as_chunks::<8>().0;
+    for (i, words) in cells.iter().take(state.lent.deltas / 2).enumerate() {
+        if let Some(deltas) = buckets.get(i / 4) {
+            let mut line = Line::<512>::new();
+            let _ = text::cell(&mut line, i, *words, [deltas[i % 4], deltas[i % 4 + 4]]);
+            line.print();
         }
-    }
-}
-
-fn cells(words: &[u64], deltas: &[u8], count: usize) {
-    for i in 0..count {
-        cell(words, deltas, i);
-    }
-}
-
-// Writes the cells where that was asked.
-pub fn show(words: &[u64], deltas: &[u8], state: State, request: Request) {
-    if request.kind == kinds::SHOW {
-        cells(words, deltas, state.deltas / 2);
     }
 }

@@ -1,146 +1,116 @@
-// Serves requests on a lent table: what the programs `answers` and `replay` share. A request is served in four steps: what
-// is kept between requests, the call, the record that it left, and the answer with a digest.
+// Serves requests on a lent table: what the programs `answers` and `replay` share. A request is served in three steps: what is
+// kept between requests, the call with the record that it leaves, and the answer with a digest.
 #![tactic(auto)]
 
-mod growing;
-mod held;
 pub mod lines;
 
-use calls::Called;
-use cells::Table;
-use forms::told::Told;
-use forms::{Answer, Request, kinds, said, told};
-use kept::{State, bucket, digest_of, forge, number_of};
+use forms::{Answer, Group, Kind, Request, Said, Told};
+use kept::{Memory, State, bucket, forge};
+use parts::Half;
 
-// An answer, and what is kept after it.
-#[derive(Clone, Copy)]
-pub struct Answered {
-    pub answer: Answer,
-    pub state: State,
+// A request on both halves.
+fn grow(memory: &mut Memory, state: &mut State, request: Request) -> Option<Told> {
+    let State { lent, spare, .. } = *state;
+    let growing = &mut state.growing;
+    let upper = &mut memory.spare;
+    memory.table.lend(lent, |lower_words, lower_deltas| {
+        upper.lend(spare, |upper_words, upper_deltas| {
+            grows::serve(
+                lower_words,
+                lower_deltas,
+                upper_words,
+                upper_deltas,
+                growing,
+                request,
+            )
+        })
+    })??
 }
 
-// A call on the slices that are lent, by the group of its kind.
-fn call(words: &mut [u64], deltas: &mut [u8], table: Table, request: Request) -> Called {
-    let group = request.kind / 16;
-    match group {
-        1 => calls::serve(words, deltas, table, request),
-        2 => Called {
-            told: bucket::serve(words, deltas, table, request),
-            table,
-        },
-        _ => Called {
-            told: told::plain(said::UNKNOWN),
-            table,
-        },
-    }
-}
-
-// Carries out a request on the arrays, of which the state says how much is lent.
-fn serve(
-    words: &mut [u64],
-    deltas: &mut [u8],
-    spare_words: &mut [u64],
-    spare_deltas: &mut [u8],
-    state: State,
-    request: Request,
-) -> Called {
-    let table = state.table;
-    if request.kind < kinds::TABLE {
-        return Called {
-            told: forge::serve(words, deltas, spare_words, spare_deltas, request),
-            table,
-        };
-    }
-    let w = state.words;
-    let d = state.deltas;
-    if w <= words.len() {
-        if d <= deltas.len() {
-            return call(&mut words[0..w], &mut deltas[0..d], table, request);
+// Carries out a request; nothing where it cannot be.
+fn serve(memory: &mut Memory, state: &mut State, request: Request) -> Option<Told> {
+    state.prepare(request);
+    let done = Told::plain(Said::Done);
+    let lent = state.lent;
+    let table = &mut state.growing.table;
+    match request.kind.group() {
+        Group::Kept => state.change(request).map(|()| done),
+        Group::Forged => forge::change(memory, request).map(|()| done),
+        Group::Fixed => memory.table.lend(lent, |words, deltas| {
+            calls::serve(words, deltas, table, request)
+        })?,
+        Group::Buckets => memory.table.lend(lent, |words, deltas| {
+            bucket::serve(words, deltas, table.hasher, request)
+        })?,
+        Group::Growing => grow(memory, state, request),
+        Group::Held => {
+            let hand = &mut state.hand;
+            memory.table.lend(lent, |words, deltas| {
+                cursors::serve(words, deltas, table, hand, request)
+            })?
         }
-    }
-    Called {
-        told: told::plain(said::UNKNOWN),
-        table,
     }
 }
 
 // How many cells the lent slices hold; 0 for a bad shape.
-fn capacity_of(words: &[u64], deltas: &[u8], w: usize, d: usize) -> u64 {
-    if w <= words.len() {
-        if d <= deltas.len() {
-            return calls::capacity_of(&words[0..w], &deltas[0..d]);
-        }
+fn capacity(memory: &Memory, state: &State) -> u64 {
+    let words = memory.table.words.get(..state.lent.words);
+    let deltas = memory.table.deltas.get(..state.lent.deltas);
+    match (words, deltas) {
+        (Some(words), Some(deltas)) => calls::capacity_of(words, deltas),
+        _ => 0,
     }
-    0
+}
+
+// The digest, where the state or the request asks for one. One that is 0 counts as none.
+fn digest(memory: &Memory, state: &State, kind: Option<Kind>) -> Option<u64> {
+    if state.digests || kind == Some(Kind::Digest) {
+        Some(state.digest(memory)).filter(|digest| *digest != 0)
+    } else {
+        None
+    }
 }
 
 // The answer that goes with what was told, and with what stands there now.
-pub fn answer_of(
-    words: &[u64],
-    deltas: &[u8],
-    spare_words: &[u64],
-    spare_deltas: &[u8],
-    state: State,
-    told: Told,
-    kind: u64,
-) -> Answer {
-    let table = state.table;
-    let hasher = table.hasher;
+fn answer_of(memory: &Memory, state: &State, kind: Option<Kind>, told: Told) -> Answer {
+    let table = state.growing.table;
     Answer {
-        said: told.said,
-        first: told.first,
-        second: told.second,
-        third: told.third,
-        looked: told.looked,
-        hasher: number_of(hasher),
+        told,
+        hasher: table.hasher,
         live: table.live as u64,
-        capacity: capacity_of(words, deltas, state.words, state.deltas),
-        digest: digest_of(words, deltas, spare_words, spare_deltas, state, kind),
+        capacity: capacity(memory, state),
+        digest: digest(memory, state, kind),
     }
 }
 
-// Serves a request on one table.
-fn turn_table(
-    words: &mut [u64],
-    deltas: &mut [u8],
-    spare_words: &mut [u64],
-    spare_deltas: &mut [u8],
-    state: State,
-    request: Request,
-) -> Answered {
-    let called = serve(words, deltas, spare_words, spare_deltas, state, request);
-    let told = called.told;
-    let table = called.table;
-    let next = state.with(table);
-    Answered {
-        answer: answer_of(
-            words,
-            deltas,
-            spare_words,
-            spare_deltas,
-            next,
-            told,
-            request.kind,
-        ),
-        state: next,
+// Says where a growing table is: its size in the place of the cells that are lent, its half as the third value.
+fn placed(answer: Answer, state: &State) -> Answer {
+    let third = match state.growing.half {
+        Half::Lower => 0,
+        Half::Upper => 1,
+    };
+    Answer {
+        told: Told {
+            third,
+            ..answer.told
+        },
+        capacity: state.growing.size as u64,
+        ..answer
     }
 }
 
-// Serves one request.
-pub fn turn(
-    words: &mut [u64],
-    deltas: &mut [u8],
-    spare_words: &mut [u64],
-    spare_deltas: &mut [u8],
-    before: State,
-    request: Request,
-) -> Answered {
-    let state = before.changed(request);
-    if request.kind / 16 == 3 {
-        return growing::turn(words, deltas, spare_words, spare_deltas, state, request);
+// Serves one request, or says that it is none.
+pub fn turn(memory: &mut Memory, state: &mut State, request: Option<Request>) -> Answer {
+    let told = request.and_then(|request| serve(memory, state, request));
+    let kind = request.map(|request| request.kind);
+    let answer = answer_of(
+        memory,
+        state,
+        kind,
+        told.unwrap_or(Told::plain(Said::Unknown)),
+    );
+    if kind.is_some_and(Kind::grows) {
+        return placed(answer, state);
     }
-    if request.kind / 16 == 4 {
-        return held::turn(words, deltas, spare_words, spare_deltas, state, request);
-    }
-    turn_table(words, deltas, spare_words, spare_deltas, state, request)
+    answer
 }

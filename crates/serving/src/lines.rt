@@ -1,273 +1,120 @@
 // Requests as lines of text. Each is answered by the line and its answer; in a replay it is held to the answer that stands
 // behind it. Empty lines and lines that start with '#' are no requests.
 use crate::turn;
-use forms::reader::{Reader, next};
-use forms::words::place_of;
-use forms::{Answer, Request, kinds, line, text};
-use kept::State;
+use forms::line::{Line, print};
+use forms::reader::Reader;
+use forms::{Kind, text};
 use kept::show::show;
+use kept::{Memory, State};
 
-// Standard output.
-const STDOUT_FILENO: i32 = 1;
+// A line of input: one that fills its room is too long to be a request.
+type Input = Line<256>;
 
-// The request that a line is, and how much of the line it is. A line that is no request has a kind of its own.
-#[derive(Clone, Copy)]
-pub struct Question {
-    pub request: Request,
-    pub length: usize,
-}
+type Output = Line<512>;
 
-// How far a run is: what is kept, how many requests there were, and how many answers were not those recorded.
-#[derive(Clone, Copy)]
-struct Session {
-    state: State,
-    replay: bool,
-    requests: u64,
-    differences: u64,
+// What is done with answers.
+#[derive(Clone, Copy, Debug, PartialEq, Eq)]
+pub enum Mode {
+    // They are written, and so are lines that are no requests.
+    Answer,
+    // They are held to the recorded ones.
+    Replay,
 }
 
 // How many requests there were, and how many answers were not those recorded.
-#[derive(Clone, Copy)]
+#[derive(Clone, Copy, Default)]
 pub struct Tally {
     pub requests: u64,
     pub differences: u64,
 }
 
-fn add(a: u64, b: u64) -> u64 {
-    std::num::wrapping_add_u64(a, b)
-}
-
-impl Session {
-    fn start(replay: bool) -> Session {
-        Session {
-            state: State::start(),
-            replay,
-            requests: 0,
-            differences: 0,
-        }
-    }
-
-    // After one more request, with 1 for an answer that differs, else 0.
-    fn after(self, state: State, differs: u64) -> Session {
-        Session {
-            state,
-            replay: self.replay,
-            requests: add(self.requests, 1),
-            differences: add(self.differences, differs),
-        }
+impl Tally {
+    fn count(&mut self, differs: bool) {
+        self.requests = self.requests.wrapping_add(1);
+        self.differences = self.differences.wrapping_add(u64::from(differs));
     }
 }
 
-fn no_request(kind: u64) -> Question {
-    Question {
-        request: Request {
-            kind,
-            a: 0,
-            b: 0,
-            c: 0,
-            d: 0,
-        },
-        length: 0,
-    }
+// The request that stands in a line, before the ':' of a recorded answer.
+fn asked(line: &[u8]) -> &[u8] {
+    line.split(|byte| *byte == b':').next().unwrap_or(line)
 }
 
-// What a line asks. A request of a replay ends at the ':'. A line that fills its room may have had more.
-fn question_of(bytes: &[u8], used: usize) -> Question {
-    if bytes.len() <= used {
-        return no_request(kinds::LONG);
+// The recorded answer without its note, which starts with " #".
+fn without_note(recorded: &[u8]) -> &[u8] {
+    match recorded.iter().position(|byte| *byte == b'#') {
+        Some(note) => &recorded[..note.saturating_sub(1)],
+        None => recorded,
     }
-    let whole = &bytes[0..used];
-    if whole.len() == 0 {
-        return no_request(kinds::NOTE);
-    }
-    if whole[0] == b'#' {
-        return no_request(kinds::NOTE);
-    }
-    let length = place_of(whole, b':');
-    if length <= whole.len() {
-        return Question {
-            request: text::read(&whole[0..length]),
-            length,
-        };
-    }
-    no_request(kinds::NOTE)
-}
-
-// Makes the request's own text and its answer.
-fn make(made: &mut [u8; 512], bytes: &[u8], n: usize, kind: u64, answer: Answer) -> usize {
-    if n <= bytes.len() {
-        let used = line::text(made, 0, &bytes[0..n]);
-        let used = line::text(made, used, b": ");
-        return text::answer(made, used, kind, answer);
-    }
-    0
-}
-
-// Where a recorded answer ends: before a note, which starts with " #".
-fn answer_end(recorded: &[u8]) -> usize {
-    let note = place_of(recorded, b'#');
-    if note < recorded.len() {
-        if 0 < note {
-            return note - 1;
-        }
-    }
-    note
-}
-
-// 0 where what was made is the recorded line up to its note; else both are written.
-fn differs(made: &mut [u8; 512], used: usize, recorded: &[u8]) -> u64 {
-    let end = answer_end(recorded);
-    if end <= recorded.len() {
-        if line::is(made, used, &recorded[0..end]) {
-            return 0;
-        }
-    }
-    io::write_all(STDOUT_FILENO, b"recorded ");
-    echo(recorded);
-    io::write_all(STDOUT_FILENO, b"here     ");
-    line::print(made, used);
-    1
 }
 
 // Writes a line as it is.
-fn echo(bytes: &[u8]) {
-    io::write_all(STDOUT_FILENO, bytes);
-    io::write_all(STDOUT_FILENO, b"\n");
+fn echo(line: &[u8]) {
+    print(line);
+    print(b"\n");
 }
 
-// Writes a request with its answer, or in a replay holds it to the recorded line.
-fn answer(line: &[u8], length: usize, kind: u64, answer: Answer, replay: bool) -> u64 {
-    let mut made = [0u8; 512];
-    let used = make(&mut made, line, length, kind, answer);
-    if replay {
-        return differs(&mut made, used, line);
+// Whether what was made is not the recorded line up to its note; then both are written.
+fn differs(made: &mut Output, recorded: &[u8]) -> bool {
+    if made.as_slice() == without_note(recorded) {
+        return false;
     }
-    line::print(&mut made, used);
-    0
+    print(b"recorded ");
+    echo(recorded);
+    print(b"here     ");
+    made.print();
+    true
 }
 
-// What follows a line: its answer is written or held to the recorded one. A line that is no request is written as it is.
-fn conclude(
-    line: &[u8],
-    question: Question,
-    given: Answer,
-    session: Session,
-    state: State,
-) -> Session {
-    let request = question.request;
-    let kind = request.kind;
-    if kind == kinds::LONG {
+// Serves the request in a line. In a replay it tells whether the answer differs.
+fn answer(memory: &mut Memory, state: &mut State, line: &[u8], mode: Mode) -> bool {
+    let asked = asked(line);
+    let request = text::read(asked);
+    let kind = request.map(|request| request.kind);
+    let answer = turn(memory, state, request);
+    let mut made = Output::new();
+    made.extend(asked);
+    made.extend(b": ");
+    let _ = text::answer(&mut made, kind, &answer);
+    let differs = match mode {
+        Mode::Answer => {
+            made.print();
+            false
+        }
+        Mode::Replay => differs(&mut made, line),
+    };
+    if kind == Some(Kind::Show) {
+        show(memory, state);
+    }
+    differs
+}
+
+// Serves a line. One that is no request is written as it is.
+fn one(memory: &mut Memory, state: &mut State, input: &Input, mode: Mode, tally: &mut Tally) {
+    let line = input.as_slice();
+    if input.is_full() {
         echo(b"a line that is too long: no such request");
-        return session.after(state, 1);
-    }
-    if kind == kinds::NOTE {
-        if !session.replay {
+        tally.count(true);
+    } else if line.is_empty() || line.starts_with(b"#") {
+        if mode == Mode::Answer {
             echo(line);
         }
-        return session;
+    } else {
+        tally.count(answer(memory, state, line, mode));
     }
-    session.after(
-        state,
-        answer(line, question.length, kind, given, session.replay),
-    )
-}
-
-// The line that was read.
-fn part(room: &[u8], used: usize) -> &[u8] {
-    if used <= room.len() {
-        return &room[0..used];
-    }
-    room
-}
-
-// Serves a line.
-fn one(
-    words: &mut [u64],
-    deltas: &mut [u8],
-    spare_words: &mut [u64],
-    spare_deltas: &mut [u8],
-    line: &[u8],
-    question: Question,
-    session: Session,
-) -> Session {
-    let state = session.state;
-    let request = question.request;
-    let answered = turn(words, deltas, spare_words, spare_deltas, state, request);
-    let next = answered.state;
-    let after = conclude(line, question, answered.answer, session, next);
-    show(words, deltas, next, request);
-    after
-}
-
-// A session, and where the reading of lines is.
-#[derive(Clone, Copy)]
-struct Going {
-    session: Session,
-    reader: Reader,
-}
-
-// Reads a line and serves it, where there is one more.
-fn step(
-    words: &mut [u64],
-    deltas: &mut [u8],
-    spare_words: &mut [u64],
-    spare_deltas: &mut [u8],
-    input: &mut [u8],
-    room: &mut [u8],
-    going: Going,
-) -> Going {
-    let session = going.session;
-    let reader = next(input, room, going.reader);
-    if reader.whole {
-        let question = question_of(room, reader.used);
-        let line = part(room, reader.used);
-        let after = one(
-            words,
-            deltas,
-            spare_words,
-            spare_deltas,
-            line,
-            question,
-            session,
-        );
-        return Going {
-            session: after,
-            reader,
-        };
-    }
-    Going { session, reader }
 }
 
 // Serves all lines, of which the first n bytes are read already. The turns are counted, so that the loop ends.
-pub fn serve(
-    words: &mut [u64],
-    deltas: &mut [u8],
-    spare_words: &mut [u64],
-    spare_deltas: &mut [u8],
-    input: &mut [u8],
-    room: &mut [u8],
-    n: usize,
-    replay: bool,
-) -> Tally {
-    let mut going = Going {
-        session: Session::start(replay),
-        reader: Reader::start(n),
-    };
-    let mut turns = u64::MAX;
-    while 0 < turns {
-        if going.reader.ended {
-            let session = going.session;
-            return Tally {
-                requests: session.requests,
-                differences: session.differences,
-            };
+pub fn serve(memory: &mut Memory, input: &mut [u8], n: usize, mode: Mode) -> Tally {
+    let mut state = State::start();
+    let mut tally = Tally::default();
+    let mut reader = Reader::new(input, n);
+    let mut line = Input::new();
+    for _ in 0..u64::MAX {
+        if !reader.read_line(&mut line) {
+            break;
         }
-        going = step(words, deltas, spare_words, spare_deltas, input, room, going);
-        turns -= 1;
+        one(memory, &mut state, &line, mode, &mut tally);
     }
-    let session = going.session;
-    Tally {
-        requests: session.requests,
-        differences: session.differences,
-    }
+    tally
 }

@@ -1,9 +1,0 @@
--- `forms::bytes::put` meets its contract. Assumes nothing.
-use Rattle.std.proofs.Common.{◌-◌}
-use Rattle.forms.proofs.bytes.put.Given as goal
-
-abbrev pub invariant-loop-i : goal.invariant-loop-i
-invariant-loop-i l = Unit {0}
-
-abbrev pub decreases-loop-i : goal.decreases-loop-i
-decreases-loop-i l = 8 - l.i

@@ -1,9 +1,0 @@
--- `forms::words::place_of` meets its contract. Assumes nothing.
-use Rattle.std.proofs.Common.{◌-◌, length}
-use Rattle.forms.proofs.words.place_of.Given as goal
-
-abbrev pub invariant-loop-i : goal.invariant-loop-i
-invariant-loop-i l = Unit {0}
-
-abbrev pub decreases-loop-i : goal.decreases-loop-i
-decreases-loop-i l = length l.line - l.i

@@ -1,9 +1,0 @@
--- `forms::words::trimmed` meets its contract. Assumes nothing.
-use Rattle.std.proofs.Common.{◌≤◌, length}
-use Rattle.forms.proofs.words.trimmed.Given as goal
-
-abbrev pub invariant-loop-n : goal.invariant-loop-n
-invariant-loop-n l = l.n ≤ length l.bytes
-
-abbrev pub decreases-loop-n : goal.decreases-loop-n
-decreases-loop-n l = l.n
