@@ -1,4 +1,5 @@
 -- One outcome for each call of entryinsert. Assumes nothing.
+use Rattle.std.specs.Prelude.{Result, Ok, Err}
 use mathlib.Core.List.{List, [], ◌∷◌}
 use mathlib.Core.Path.{◌≡◌, refl, ap}
 use Prim.Native.Nat.{ℕ, zero, suc}
@@ -11,37 +12,39 @@ use Rattle.entries.specs.declared.record.Entry.{Entry}
 use Rattle.entryinsert.specs.Answers.{entry_insert_said, Handed, handed_by, insert_handed}
 use Rattle.entryinsert.specs.declared.vacant.EntryInsertSaid.{EntryInsertSaid}
 use Rattle.entryinsert.specs.declared.vacant.EntryInsertSaid.TheVariants as inserts
+use Rattle.entryinsert.specs.declared.vacant.EntryInsertError.{EntryInsertError}
+use Rattle.entryinsert.specs.declared.vacant.EntryInsertError.TheVariants as fails
 use Rattle.entryinsert.specs.declared.giving.EntryInsertAnswer.{EntryInsertAnswer}
 use Rattle.outcomes.proofs.One.{both, one}
 use Rattle.outcomes.proofs.Hashentry.{unentry, entry_back, same_table}
 
-abbrev uninsert : Said → EntryInsertSaid
-uninsert new = inserts.New
-uninsert (replaced v) = inserts.Replaced v
-uninsert revived = inserts.Revived
-uninsert (found v) = inserts.Found v
-uninsert (refused zero l) = inserts.Stale
-uninsert (refused (suc zero) l) = inserts.Shape
-uninsert (refused (suc (suc zero)) l) = inserts.ZeroHash
-uninsert (refused (suc (suc (suc zero))) l) = inserts.Null
-uninsert (refused (suc (suc (suc (suc zero)))) []) = inserts.Stale
-uninsert (refused (suc (suc (suc (suc zero)))) (p ∷ l)) = inserts.Full (record { position = p })
-uninsert (refused (suc (suc (suc (suc (suc zero))))) l) = inserts.Broken
-uninsert (refused (suc (suc (suc (suc (suc (suc n)))))) l) = inserts.Stale
-uninsert absent = inserts.Stale
-uninsert (removed v) = inserts.Stale
+abbrev uninsert : Said → Result EntryInsertSaid EntryInsertError
+uninsert new = Ok inserts.New
+uninsert (replaced v) = Ok (inserts.Replaced v)
+uninsert revived = Ok inserts.Revived
+uninsert (found v) = Ok (inserts.Found v)
+uninsert (refused zero l) = Err fails.Stale
+uninsert (refused (suc zero) l) = Err fails.Shape
+uninsert (refused (suc (suc zero)) l) = Err fails.ZeroHash
+uninsert (refused (suc (suc (suc zero))) l) = Err fails.Null
+uninsert (refused (suc (suc (suc (suc zero)))) []) = Err fails.Stale
+uninsert (refused (suc (suc (suc (suc zero)))) (p ∷ l)) = Err (fails.Full (record { position = p }))
+uninsert (refused (suc (suc (suc (suc (suc zero))))) l) = Err fails.Broken
+uninsert (refused (suc (suc (suc (suc (suc (suc n)))))) l) = Err fails.Stale
+uninsert absent = Err fails.Stale
+uninsert (removed v) = Err fails.Stale
 
-insert_back : (a : EntryInsertSaid) → uninsert (entry_insert_said a) ≡ a
-insert_back inserts.New = refl
-insert_back (inserts.Replaced v) = refl
-insert_back inserts.Revived = refl
-insert_back (inserts.Found v) = refl
-insert_back inserts.Shape = refl
-insert_back inserts.ZeroHash = refl
-insert_back inserts.Null = refl
-insert_back (inserts.Full at) = refl
-insert_back inserts.Broken = refl
-insert_back inserts.Stale = refl
+insert_back : (a : Result EntryInsertSaid EntryInsertError) → uninsert (entry_insert_said a) ≡ a
+insert_back (Ok inserts.New) = refl
+insert_back (Ok (inserts.Replaced v)) = refl
+insert_back (Ok inserts.Revived) = refl
+insert_back (Ok (inserts.Found v)) = refl
+insert_back (Err fails.Shape) = refl
+insert_back (Err fails.ZeroHash) = refl
+insert_back (Err fails.Null) = refl
+insert_back (Err (fails.Full at)) = refl
+insert_back (Err fails.Broken) = refl
+insert_back (Err fails.Stale) = refl
 
 -- the three calls are read alike
 handed_one : (a b : EntryInsertAnswer) (ws ds ws' ds' : List ℕ) → insert_handed a ws ds ≡ insert_handed b ws' ds' → (a ≡ b) × (ws ≡ ws') × (ds ≡ ds')

@@ -1,4 +1,5 @@
 -- One outcome for each call of hashentry. Assumes nothing.
+use Rattle.std.specs.Prelude.{Result, Ok, Err}
 use mathlib.Core.List.{List}
 use mathlib.Core.Path.{◌≡◌, refl, ap}
 use Prim.Native.Nat.{ℕ, zero, suc}
@@ -12,14 +13,14 @@ use Rattle.hashentry.specs.Answers.{making, get_said, replace_said, replace_left
 use Rattle.entries.specs.declared.record.Place.{Place}
 use Rattle.entries.specs.declared.record.Place.TheVariants.{Occupied, Vacant}
 use Rattle.entries.specs.declared.record.Entry.{Entry}
-use Rattle.hashentry.specs.declared.making.EntrySaid.{EntrySaid}
-use Rattle.hashentry.specs.declared.making.EntrySaid.TheVariants as entries
-use Rattle.hashentry.specs.declared.occupied.GetSaid.{GetSaid}
-use Rattle.hashentry.specs.declared.occupied.GetSaid.TheVariants as gets
-use Rattle.hashentry.specs.declared.occupied.ReplaceSaid.{ReplaceSaid}
-use Rattle.hashentry.specs.declared.occupied.ReplaceSaid.TheVariants as replaces
-use Rattle.hashentry.specs.declared.occupied.EntryRemoveSaid.{EntryRemoveSaid}
-use Rattle.hashentry.specs.declared.occupied.EntryRemoveSaid.TheVariants as removes
+use Rattle.hashmap.specs.declared.LookupError.{LookupError}
+use Rattle.hashmap.specs.declared.LookupError.TheVariants as lookups
+use Rattle.hashentry.specs.declared.occupied.GetError.{GetError}
+use Rattle.hashentry.specs.declared.occupied.GetError.TheVariants as gets
+use Rattle.hashentry.specs.declared.occupied.ReplaceError.{ReplaceError}
+use Rattle.hashentry.specs.declared.occupied.ReplaceError.TheVariants as replaces
+use Rattle.hashentry.specs.declared.occupied.EntryRemoveError.{EntryRemoveError}
+use Rattle.hashentry.specs.declared.occupied.EntryRemoveError.TheVariants as removes
 use Rattle.hashentry.specs.declared.occupied.EntryRemoveAnswer.{EntryRemoveAnswer}
 use Rattle.hashentry.specs.declared.occupied.RemoveEntryAnswer.{RemoveEntryAnswer}
 use Rattle.outcomes.proofs.One.{both, one}
@@ -41,20 +42,20 @@ unentry e = record { key = e.key; hash = e.hash; place = unplace e.place }
 pub entry_back : (a : Entry) → unentry (entry_in a) ≡ a
 entry_back a = λ i. record { key = a.key; hash = a.hash; place = place_back a.place i }
 
-abbrev unmake : Making → EntrySaid
-unmake (made e) = entries.Made (unentry e)
-unmake (refuses (suc zero)) = entries.Shape
-unmake (refuses (suc (suc zero))) = entries.ZeroHash
-unmake (refuses (suc (suc (suc n)))) = entries.Broken
-unmake (refuses zero) = entries.Broken
+abbrev unmake : Making → Result Entry LookupError
+unmake (made e) = Ok (unentry e)
+unmake (refuses (suc zero)) = Err lookups.Shape
+unmake (refuses (suc (suc zero))) = Err lookups.ZeroHash
+unmake (refuses (suc (suc (suc n)))) = Err lookups.Broken
+unmake (refuses zero) = Err lookups.Broken
 
-make_back : (a : EntrySaid) → unmake (making a) ≡ a
-make_back (entries.Made e) = ap entries.Made (entry_back e)
-make_back entries.Shape = refl
-make_back entries.ZeroHash = refl
-make_back entries.Broken = refl
+make_back : (a : Result Entry LookupError) → unmake (making a) ≡ a
+make_back (Ok e) = ap Ok (entry_back e)
+make_back (Err lookups.Shape) = refl
+make_back (Err lookups.ZeroHash) = refl
+make_back (Err lookups.Broken) = refl
 
-pub entry_one_outcome : (words deltas : List ℕ) (table : Table) (key : ℕ) (r₁ r₂ : EntrySaid)
+pub entry_one_outcome : (words deltas : List ℕ) (table : Table) (key : ℕ) (r₁ r₂ : Result Entry LookupError)
     → making r₁ ≡ entry_of (lent words deltas table) key
     → making r₂ ≡ entry_of (lent words deltas table) key
     → r₁ ≡ r₂
@@ -65,25 +66,25 @@ key_one_outcome entry r₁ r₂ e₁ e₂ = both e₁ e₂
 
 -- ---- get
 
-abbrev unget : Said → GetSaid
-unget (found v) = gets.Found v
-unget (refused (suc zero) l) = gets.Shape
-unget (refused (suc (suc zero)) l) = gets.ZeroHash
-unget (refused (suc (suc (suc n))) l) = gets.Stale
-unget (refused zero l) = gets.Stale
-unget absent = gets.Stale
-unget new = gets.Stale
-unget (replaced v) = gets.Stale
-unget revived = gets.Stale
-unget (removed v) = gets.Stale
+abbrev unget : Said → Result ℕ GetError
+unget (found v) = Ok v
+unget (refused (suc zero) l) = Err gets.Shape
+unget (refused (suc (suc zero)) l) = Err gets.ZeroHash
+unget (refused (suc (suc (suc n))) l) = Err gets.Stale
+unget (refused zero l) = Err gets.Stale
+unget absent = Err gets.Stale
+unget new = Err gets.Stale
+unget (replaced v) = Err gets.Stale
+unget revived = Err gets.Stale
+unget (removed v) = Err gets.Stale
 
-get_back : (a : GetSaid) → unget (get_said a) ≡ a
-get_back (gets.Found v) = refl
-get_back gets.Shape = refl
-get_back gets.ZeroHash = refl
-get_back gets.Stale = refl
+get_back : (a : Result ℕ GetError) → unget (get_said a) ≡ a
+get_back (Ok v) = refl
+get_back (Err gets.Shape) = refl
+get_back (Err gets.ZeroHash) = refl
+get_back (Err gets.Stale) = refl
 
-pub get_one_outcome : (words deltas : List ℕ) (table : Table) (entry : Entry) (r₁ r₂ : GetSaid)
+pub get_one_outcome : (words deltas : List ℕ) (table : Table) (entry : Entry) (r₁ r₂ : Result ℕ GetError)
     → get_said r₁ ≡ (get_by (lent words deltas table) (entry_in entry)).said
     → get_said r₂ ≡ (get_by (lent words deltas table) (entry_in entry)).said
     → r₁ ≡ r₂
@@ -91,27 +92,27 @@ get_one_outcome words deltas table entry r₁ r₂ e₁ e₂ = one get_said unge
 
 -- ---- replace
 
-abbrev unreplace : Said → ReplaceSaid
-unreplace (replaced v) = replaces.Replaced v
-unreplace (refused (suc zero) l) = replaces.Shape
-unreplace (refused (suc (suc zero)) l) = replaces.ZeroHash
-unreplace (refused (suc (suc (suc zero))) l) = replaces.Null
-unreplace (refused (suc (suc (suc (suc n)))) l) = replaces.Stale
-unreplace (refused zero l) = replaces.Stale
-unreplace (found v) = replaces.Stale
-unreplace absent = replaces.Stale
-unreplace new = replaces.Stale
-unreplace revived = replaces.Stale
-unreplace (removed v) = replaces.Stale
+abbrev unreplace : Said → Result ℕ ReplaceError
+unreplace (replaced v) = Ok v
+unreplace (refused (suc zero) l) = Err replaces.Shape
+unreplace (refused (suc (suc zero)) l) = Err replaces.ZeroHash
+unreplace (refused (suc (suc (suc zero))) l) = Err replaces.Null
+unreplace (refused (suc (suc (suc (suc n)))) l) = Err replaces.Stale
+unreplace (refused zero l) = Err replaces.Stale
+unreplace (found v) = Err replaces.Stale
+unreplace absent = Err replaces.Stale
+unreplace new = Err replaces.Stale
+unreplace revived = Err replaces.Stale
+unreplace (removed v) = Err replaces.Stale
 
-replace_back : (a : ReplaceSaid) → unreplace (replace_said a) ≡ a
-replace_back (replaces.Replaced v) = refl
-replace_back replaces.Shape = refl
-replace_back replaces.ZeroHash = refl
-replace_back replaces.Null = refl
-replace_back replaces.Stale = refl
+replace_back : (a : Result ℕ ReplaceError) → unreplace (replace_said a) ≡ a
+replace_back (Ok v) = refl
+replace_back (Err replaces.Shape) = refl
+replace_back (Err replaces.ZeroHash) = refl
+replace_back (Err replaces.Null) = refl
+replace_back (Err replaces.Stale) = refl
 
-pub replace_one_outcome : (words deltas : List ℕ) (table : Table) (entry : Entry) (value : ℕ) (r₁ r₂ : ReplaceSaid) (words₁ words₂ : List ℕ)
+pub replace_one_outcome : (words deltas : List ℕ) (table : Table) (entry : Entry) (value : ℕ) (r₁ r₂ : Result ℕ ReplaceError) (words₁ words₂ : List ℕ)
     → replace_left table r₁ words₁ deltas ≡ left_by (replace_by (lent words deltas table) (entry_in entry) value) table words deltas
     → replace_left table r₂ words₂ deltas ≡ left_by (replace_by (lent words deltas table) (entry_in entry) value) table words deltas
     → (r₁ ≡ r₂) × (words₁ ≡ words₂)
@@ -121,27 +122,27 @@ replace_one_outcome words deltas table entry value r₁ r₂ words₁ words₂ e
 
 -- ---- remove
 
-abbrev unremove : Said → EntryRemoveSaid
-unremove (removed v) = removes.Removed v
-unremove (refused (suc zero) l) = removes.Shape
-unremove (refused (suc (suc zero)) l) = removes.ZeroHash
-unremove (refused (suc (suc (suc (suc (suc zero))))) l) = removes.Broken
-unremove (refused (suc (suc (suc (suc (suc (suc n)))))) l) = removes.Stale
-unremove (refused (suc (suc (suc (suc zero)))) l) = removes.Stale
-unremove (refused (suc (suc (suc zero))) l) = removes.Stale
-unremove (refused zero l) = removes.Stale
-unremove (found v) = removes.Stale
-unremove absent = removes.Stale
-unremove new = removes.Stale
-unremove (replaced v) = removes.Stale
-unremove revived = removes.Stale
+abbrev unremove : Said → Result ℕ EntryRemoveError
+unremove (removed v) = Ok v
+unremove (refused (suc zero) l) = Err removes.Shape
+unremove (refused (suc (suc zero)) l) = Err removes.ZeroHash
+unremove (refused (suc (suc (suc (suc (suc zero))))) l) = Err removes.Broken
+unremove (refused (suc (suc (suc (suc (suc (suc n)))))) l) = Err removes.Stale
+unremove (refused (suc (suc (suc (suc zero)))) l) = Err removes.Stale
+unremove (refused (suc (suc (suc zero))) l) = Err removes.Stale
+unremove (refused zero l) = Err removes.Stale
+unremove (found v) = Err removes.Stale
+unremove absent = Err removes.Stale
+unremove new = Err removes.Stale
+unremove (replaced v) = Err removes.Stale
+unremove revived = Err removes.Stale
 
-remove_back : (a : EntryRemoveSaid) → unremove (entry_remove_said a) ≡ a
-remove_back (removes.Removed v) = refl
-remove_back removes.Shape = refl
-remove_back removes.ZeroHash = refl
-remove_back removes.Broken = refl
-remove_back removes.Stale = refl
+remove_back : (a : Result ℕ EntryRemoveError) → unremove (entry_remove_said a) ≡ a
+remove_back (Ok v) = refl
+remove_back (Err removes.Shape) = refl
+remove_back (Err removes.ZeroHash) = refl
+remove_back (Err removes.Broken) = refl
+remove_back (Err removes.Stale) = refl
 
 -- the record that a call hands back
 pub same_table : (s s' : Said) (t t' : Table) (ws ds ws' ds' : List ℕ) → left_as s t ws ds ≡ left_as s' t' ws' ds' → t ≡ t'
