@@ -1,11 +1,11 @@
 -- Each branch of the rules of entries, as the code takes it. Assumes nothing.
-use Rattle.std.specs.Prelude.{Option, Some, None, Result, Ok, Err}
+use Rattle.std.proofs.lemmas.Bool.{and_parts, and_right, or_right}
+use Rattle.std.specs.Prelude.{Option, Some, None, Result, Ok, Err, IsErrAnd}
 use mathlib.Core.Bool.{Bool, true, false, cond, not, ◌&&◌, ◌||◌}
 use mathlib.Core.List.{List, []}
 use mathlib.Core.Logic.{◌≢◌}
 use mathlib.Core.Path.{◌≡◌, refl, sym, ap, ◌∙◌}
 use Prim.Native.Nat.{ℕ, ◌+◌, ◌*◌, ◌≤◌, ◌<◌}
-use native.Mathlib.Omega.{arith}
 use borrow.Author.Tests.{eq-eqb, ne_eqb, eqb-true, ltb-true}
 use lib.Dec.{eqb, leb}
 use lib.ListN.{length}
@@ -15,11 +15,11 @@ use Rattle.rules.specs.Answers.{refused, Outcome, leave, unless}
 use Rattle.rules.specs.Entries.{Place, occupied, vacant, Entry, Action, below, use_shape, offers, outdated, stale, used_at, used_vacant, used, use_entry}
 use Rattle.cells.specs.declared.Table.{Table}
 use Rattle.cells.specs.Layout.{Shaped, null, is_shaped, size_in, lent, hash_in, value_in, holds_in}
-use Rattle.cells.proofs.Shapes.{words_hold, passed}
+use Rattle.cells.proofs.Shapes.{words_hold, passed, sized, unsized}
 use Rattle.entries.specs.declared.looking.CellValue.{CellValue}
 use Rattle.entries.specs.declared.looking.LookError.{LookError}
 use Rattle.entries.specs.declared.looking.LookError.TheVariants.{ZeroHash, Stale}
-use Rattle.entries.specs.Workers.{HeldAt, Unheld, other_hash, not_occupied, lost, gone, Looks, look_failed}
+use Rattle.entries.specs.Workers.{use_size, HeldAt, Unheld, other_hash, not_occupied, lost, gone, Looks, look_failed}
 
 -- ---- the checks of a use
 
@@ -66,14 +66,10 @@ module _ (l : Lent) (e : Entry) (a : Action) where
 
 -- ---- check 7
 
-or-true : (b : Bool) → b || true ≡ true
-or-true true = refl
-or-true false = refl
-
 module _ (l : Lent) (e : Entry) where
   pub stale_other : e.hash ≢ l.params.hash_of e.key → stale l e ≡ 7
   unfolding stale
-  stale_other n = rw (ne_eqb _ _ n, or-true (outdated l e e.place))
+  stale_other n = rw (ne_eqb _ _ n, or_right (outdated l e e.place) true refl)
 
   pub stale_outdated : outdated l e e.place ≡ true → stale l e ≡ 7
   unfolding stale
@@ -99,14 +95,7 @@ module _ (ws ds : List ℕ) (t : Table) (e : Entry) (a : Action) (s : use_shape 
       use_past (lent ws ds t) e a s o h.some (stale_not (lent ws ds t) e h.own fresh) ∙ rw (h.at, h.value)
     where
       taken : hash_in ws i ≢ 0
-      taken z = h.some (sym h.own ∙ sym (both (hash_in ws i) e.hash _ h.holds) ∙ z)
-        where
-          both : (x y : ℕ) (b : Bool) → eqb x y && b ≡ true → x ≡ y
-          both x y b q = go (eqb x y) refl q
-            where
-              go : (c : Bool) → eqb x y ≡ c → c && b ≡ true → x ≡ y
-              go true p q = eqb-true x y p
-              go false p q = let z : ◌≡◌ {A = ℕ} 0 1 = cc in absurd (omega arith)
+      taken z = h.some (sym h.own ∙ sym (eqb-true _ _ (and_parts (eqb (hash_in ws i) e.hash) _ h.holds).0) ∙ z)
 
       fresh : outdated (lent ws ds t) e e.place ≡ false
       fresh = rw (h.at, h.holds, ne_eqb (hash_in ws i) 0 taken, ne_eqb (value_in ws i) null (λ y. h.live (h.value ∙ y)))
@@ -120,12 +109,7 @@ module _ (ws ds : List ℕ) (t : Table) (e : Entry) (a : Action) (s : use_shape 
       stale_says (lent ws ds t) e _ _ (use_stale (lent ws ds t) e a s o some) (λ z. use_past (lent ws ds t) e a s o some z ∙ ap (λ (x : Place). used (lent ws ds t) e x a) p ∙ f p)
   use_unheld some (lost i p q) f = use_stale (lent ws ds t) e a s o some (stale_outdated (lent ws ds t) e (rw (p, q)))
   use_unheld some (gone i p q) f =
-      use_stale (lent ws ds t) e a s o some (stale_outdated (lent ws ds t) e (rw (p, eq-eqb _ _ q) (lives_not (holds_in ws i e.hash e.key) (not (eqb (hash_in ws i) 0)))))
-    where
-      lives_not : (x y : Bool) → not (x && (y && false)) ≡ true
-      lives_not true true = refl
-      lives_not true false = refl
-      lives_not false y = refl
+      use_stale (lent ws ds t) e a s o some (stale_outdated (lent ws ds t) e (rw (p, eq-eqb _ _ q) (ap not (and_right (holds_in ws i e.hash e.key) _ (and_right (not (eqb (hash_in ws i) 0)) _ refl)))))
 
 -- ---- what check 1 shows
 
@@ -133,52 +117,47 @@ module _ (ws ds : List ℕ) (t : Table) (e : Entry) (a : Action) (s : use_shape 
 pub held_in : (S : ℕ) (ws : List ℕ) (p : Place) (i : ℕ) → 3 * S ≤ length ws → below S p ≡ true → p ≡ occupied i → 3 * i + 2 < length ws
 held_in S ws p i l b q = words_hold S ws i l (ltb-true i S (rw q at b))
 
-pub use_ready : (ws ds : List ℕ) (live : ℕ) (p : Place) → is_shaped ws ds && leb live (size_in ds) && below (size_in ds) p ≡ true
-    → Shaped (size_in ds) ws ds × (below (size_in ds) p ≡ true)
-use_ready ws ds live p e = go (is_shaped ws ds && leb live (size_in ds)) refl e
-  where
-    go : (b : Bool) → is_shaped ws ds && leb live (size_in ds) ≡ b → b && below (size_in ds) p ≡ true → Shaped (size_in ds) ws ds × (below (size_in ds) p ≡ true)
-    go true q e = ((passed ws ds live q).0, e)
-    go false q e = let z : ◌≡◌ {A = ℕ} 0 1 = cc in absurd (omega arith)
-
 -- the size that check 1 of a use answers, or none
-module _ (ws ds : List ℕ) (t : Table) (p : Place) {o : Option ℕ} (w : o ≡ cond {A = Option ℕ} (is_shaped ws ds && leb t.live (size_in ds) && below (size_in ds) p) (Some (size_in ds)) None) where
-  pub sized : {n : ℕ} → o ≡ Some n → (n ≡ size_in ds) × (use_shape (lent ws ds t) p ≡ 0)
-  sized {n} q = go (is_shaped ws ds && leb t.live (size_in ds) && below (size_in ds) p) (sym q ∙ w)
-    where
-      go : (b : Bool) → Some n ≡ cond {A = Option ℕ} b (Some (size_in ds)) None → (n ≡ size_in ds) × (cond {A = ℕ} b 0 1 ≡ 0)
-      go true e = (cc, refl)
-      go false e = cc
+module _ (ws ds : List ℕ) (t : Table) (p : Place) {o : Option ℕ} (w : o ≡ use_size ws ds t.live p) where
+  pub use_sized : {n : ℕ} → o ≡ Some n → (n ≡ size_in ds) × (use_shape (lent ws ds t) p ≡ 0)
+  use_sized q = let a = sized _ (size_in ds) (sym q ∙ w) in (a.1, use_passes (lent ws ds t) p a.0)
 
-  pub unsized : o ≡ None → use_shape (lent ws ds t) p ≡ 1
-  unsized q = go (is_shaped ws ds && leb t.live (size_in ds) && below (size_in ds) p) (sym q ∙ w)
-    where
-      go : (b : Bool) → None ≡ cond {A = Option ℕ} b (Some (size_in ds)) None → cond {A = ℕ} b 0 1 ≡ 1
-      go true e = cc
-      go false e = refl
+  pub use_unsized : o ≡ None → use_shape (lent ws ds t) p ≡ 1
+  use_unsized q = use_fails (lent ws ds t) p (unsized _ (size_in ds) (sym q ∙ w))
 
   -- what the workers ask for
-  pub sized_ready : {n : ℕ} → o ≡ Some n → Shaped n ws ds × (below n p ≡ true)
-  sized_ready {n} q = go (is_shaped ws ds && leb t.live (size_in ds) && below (size_in ds) p) refl (sym q ∙ w)
-    where
-      go : (b : Bool) → is_shaped ws ds && leb t.live (size_in ds) && below (size_in ds) p ≡ b → Some n ≡ cond {A = Option ℕ} b (Some (size_in ds)) None
-          → Shaped n ws ds × (below n p ≡ true)
-      go true k e = let z : n ≡ size_in ds = cc in rw z (use_ready ws ds t.live p k)
-      go false k e = absurd (cc)
+  pub use_ready : {n : ℕ} → o ≡ Some n → Shaped n ws ds × (below n p ≡ true)
+  use_ready q =
+      let a = sized _ (size_in ds) (sym q ∙ w) in
+      let b = and_parts (is_shaped ws ds && leb t.live (size_in ds)) _ a.0 in
+      rw a.1 ((passed ws ds t.live b.0).0, b.1)
 
 -- ---- an Occupied entry's actions, by what the code's look answered
 
-module _ (ws ds : List ℕ) (t : Table) (e : Entry) (a : Action) {m : Option ℕ} {n : ℕ} (c : m ≡ cond {A = Option ℕ} (is_shaped ws ds && leb t.live (size_in ds) && below (size_in ds) e.place) (Some (size_in ds)) None) (p : m ≡ Some n)
+module _ (ws ds : List ℕ) (t : Table) (e : Entry) (a : Action) {m : Option ℕ} {n : ℕ} (c : m ≡ use_size ws ds t.live e.place) (p : m ≡ Some n)
     (o : offers null a ≡ 0) (r : Result CellValue LookError) (w : Looks (hash_of t.hasher) ws e r) where
   pub on_held : (cell : CellValue) → r ≡ Ok cell → use_entry (lent ws ds t) e a ≡ used_at (lent ws ds t) cell.index cell.value a
-  on_held cell q = use_held ws ds t e a (sized ws ds t e.place c p).1 o cell.index cell.value (rw q at w)
+  on_held cell q = use_held ws ds t e a (use_sized ws ds t e.place c p).1 o cell.index cell.value (rw q at w)
 
   -- refused, where the action is not a Vacant entry's
   pub on_error : (x : LookError) → r ≡ Err x → (e.place ≡ vacant → used_vacant (lent ws ds t) e a ≡ leave (refused 7 []) 0 (lent ws ds t).counts)
       → use_entry (lent ws ds t) e a ≡ leave (look_failed x) 0 (lent ws ds t).counts
-  on_error ZeroHash q f = use_zero (lent ws ds t) e a (sized ws ds t e.place c p).1 o (rw q at w)
-  on_error Stale q f = let u = rw q at w in use_unheld ws ds t e a (sized ws ds t e.place c p).1 o u.0 u.1 f
+  on_error ZeroHash q f = use_zero (lent ws ds t) e a (use_sized ws ds t e.place c p).1 o (rw q at w)
+  on_error Stale q f = let u = rw q at w in use_unheld ws ds t e a (use_sized ws ds t e.place c p).1 o u.0 u.1 f
 
 -- the cell of a look is the entry's
 pub looked_at : (f : ℕ → ℕ) (ws : List ℕ) (e : Entry) (r : Result CellValue LookError) → Looks f ws e r → (cell : CellValue) → r ≡ Ok cell → e.place ≡ occupied cell.index
 looked_at f ws e r w cell q = let h = rw q at w in h.at
+
+-- ---- an error that is passed on
+
+module _ {T E X : Type 0} (said : Result T E → X) where
+  -- as another that is told alike
+  pub passed_as : (r : Result T E) (x : X) → IsErrAnd r (λ e. said (Err e) ≡ x) → said r ≡ x
+  passed_as (Ok v) x p = absurd p
+  passed_as (Err e) x p = p
+
+  -- as the one that stands for a None
+  pub passed_none : {A : Type 0} (r : Result T E) (e e' : E) → IsErrAnd r (λ y. y ≡ e) → ◌≡◌ {A = Result A E} (Err e) (Err e') → said r ≡ said (Err e')
+  passed_none (Ok v) e e' p q = absurd p
+  passed_none (Err y) e e' p q = let z : y ≡ e' = cc in ap (λ (y : E). said (Err y)) z

@@ -1,12 +1,18 @@
--- What a look at an entry's cell shows.
-use Rattle.std.specs.Prelude.{true, false, List, [], ◌≢◌, ◌≡◌, ℕ, Result, Ok, Err}
+-- What the checks of an entry's use show.
+use Rattle.std.specs.Prelude.{true, false, cond, ◌&&◌, nat_le, List, [], ◌≢◌, ◌≡◌, ℕ, Option, Some, None, Result, Ok, Err}
 use Rattle.rules.specs.Answers.{Said, refused}
-use Rattle.rules.specs.Entries.{occupied, vacant, Entry}
-use Rattle.cells.specs.Layout.{null, value_in, holds_in}
+use Rattle.rules.specs.Entries.{Place, occupied, vacant, below, Entry}
+use Rattle.cells.specs.Layout.{null, is_shaped, size_in, value_in, holds_in}
 use Rattle.entries.specs.declared.looking.CellValue.{CellValue}
 use Rattle.entries.specs.declared.looking.LookError.{LookError}
 use Rattle.entries.specs.declared.looking.LookError.TheVariants.{ZeroHash, Stale}
 
+-- check 1: how many cells the table has, or none where it fails
+abbrev pub use_size : List ℕ → List ℕ → ℕ → Place → Option ℕ
+use_size ws ds live at =
+    cond (is_shaped ws ds && nat_le live (size_in ds) && below (size_in ds) at) (Some (size_in ds)) None
+
+-- what a look at an entry's cell shows
 module _ (hash_of : ℕ → ℕ) (ws : List ℕ) (e : Entry) where
   -- the entry's cell i holds its hash and key live, with the value v
   pub record HeldAt (i v : ℕ) : Type 0 where

@@ -1,10 +1,9 @@
 // Internal: the checks of an entry's use.
-ghost use Rattle.std.specs.Prelude.{true, ◌&&◌, ◌≡◌, ◌*◌, ◌≤◌, nat_le, length, cond, Some, None};
+ghost use Rattle.std.specs.Prelude.{true, ◌≡◌, ◌*◌, ◌≤◌, length};
 ghost use Rattle.hashers.specs.Keys.{hash_of};
-ghost use Rattle.cells.specs.Layout.{is_shaped, size_in};
 ghost use Rattle.rules.specs.Entries.{below};
 ghost use Rattle.entries.specs.Answers.{place_of, entry_in};
-ghost use Rattle.entries.specs.Workers.{Looks};
+ghost use Rattle.entries.specs.Workers.{use_size, Looks};
 
 use crate::record::{Entry, Place};
 use cells::slices::{holds_at, value_at};
@@ -13,7 +12,7 @@ use hashers::{Hasher, hash_of};
 
 // Check 1: how many cells the table has, or none where the shape fails or an Occupied entry's cell lies outside.
 pub fn size_at(words: &[u64], deltas: &[u8], live: usize, place: Place) -> Option<usize>
-    ensures { result ≡ cond (is_shaped words.now deltas.now && nat_le live (size_in deltas.now) && below (size_in deltas.now) (place_of place)) (Some (size_in deltas.now)) None }
+    ensures { result ≡ use_size words.now deltas.now live (place_of place) }
 {
     let size = size_of(words, deltas, live)?;
     match place {

@@ -1,37 +1,25 @@
 -- What a call that inserts hands back, from the outcome that its branch of the rules gives. Assumes nothing.
-use Rattle.std.specs.Prelude.{cond, leb, ◌&&◌, Option, Some, None, Result, Ok, Err, IsErrAnd}
+use Rattle.std.specs.Prelude.{Option, Some, Result, Ok, Err}
 use mathlib.Core.List.{List}
-use mathlib.Core.Path.{◌≡◌, ap, ◌∙◌}
+use mathlib.Core.Path.{◌≡◌, ◌∙◌}
 use Prim.Native.Nat.{ℕ, ◌+◌, ◌*◌}
 use lib.ListN.{set}
 use Rattle.hashers.specs.Keys.{hash_of}
 use Rattle.rules.specs.Cells.{offered}
 use Rattle.rules.specs.Answers.{Said, store, Outcome, leave}
-use Rattle.rules.specs.Entries.{Place, occupied, vacant, Action, inserting, below, offers, on_case, used_at, use_entry}
+use Rattle.rules.specs.Entries.{Place, occupied, vacant, Action, inserting, offers, on_case, used_at, use_entry}
 use Rattle.cells.specs.declared.Table.{Table}
-use Rattle.cells.specs.Layout.{null, is_shaped, size_in, lent, done_by, counts_of}
+use Rattle.cells.specs.Layout.{null, lent, done_by, counts_of}
 use Rattle.entries.specs.declared.looking.CellValue.{CellValue}
 use Rattle.entries.specs.declared.looking.LookError.{LookError}
 use Rattle.entries.specs.declared.record.Entry.{Entry}
 use Rattle.entries.specs.Answers.{place_of, entry_in}
-use Rattle.entries.specs.Workers.{Looks, look_failed}
+use Rattle.entries.specs.Workers.{use_size, Looks, look_failed}
 use Rattle.entries.proofs.Using.{looked_at, on_held, on_error}
 use Rattle.entryinsert.specs.declared.giving.Doing.{Doing}
 use Rattle.entryinsert.specs.declared.giving.Doing.TheVariants.{Refuse, Keep, Replace}
-use Rattle.entryinsert.specs.declared.vacant.EntryInsertError.{EntryInsertError}
-use Rattle.entryinsert.specs.declared.vacant.EntryInsertSaid.{EntryInsertSaid}
-use Rattle.entryinsert.specs.Answers.{entry_insert_failed, entry_insert_said, handed_by}
+use Rattle.entryinsert.specs.Answers.{handed_by}
 use Rattle.entryinsert.specs.Workers.{doing}
-
--- the answer of an error that was passed on
-pub passed_on : (r : Result EntryInsertSaid EntryInsertError) (s : Said) → IsErrAnd r (λ x. entry_insert_failed x ≡ s) → entry_insert_said r ≡ s
-passed_on (Ok x) s p = absurd p
-passed_on (Err x) s p = p
-
--- and of one that was named before
-pub passed_up : (r : Result EntryInsertSaid EntryInsertError) (e x : EntryInsertError) → IsErrAnd r (λ y. y ≡ e) → ◌≡◌ {A = Result ℕ EntryInsertError} (Err e) (Err x) → entry_insert_said r ≡ entry_insert_failed x
-passed_up (Ok v) e x p q = absurd p
-passed_up (Err y) e x p q = let z : y ≡ x = cc in ap entry_insert_failed z
 
 module _ (o : Outcome) (e : Entry) (t : Table) (ws ds : List ℕ) (told : Said) where
   -- nothing was changed: the entry stays
@@ -58,7 +46,7 @@ case_vacant p a b q = rw q
 
 -- ---- an Occupied entry, by what its look answered
 
-module _ (ws ds : List ℕ) (t : Table) (e : Entry) (d : Doing) (v : ℕ) {m : Option ℕ} {n : ℕ} (k : m ≡ cond {A = Option ℕ} (is_shaped ws ds && leb t.live (size_in ds) && below (size_in ds) (place_of e.place)) (Some (size_in ds)) None) (s : m ≡ Some n)
+module _ (ws ds : List ℕ) (t : Table) (e : Entry) (d : Doing) (v : ℕ) {m : Option ℕ} {n : ℕ} (k : m ≡ use_size ws ds t.live (place_of e.place)) (s : m ≡ Some n)
     (o : offered null v ≡ 0) (r : Result CellValue LookError) (w : Looks (hash_of t.hasher) ws (entry_in e) r) where
   pub case_held : (cell : CellValue) → r ≡ Ok cell
       → use_entry (lent ws ds t) (entry_in e) (on_case (place_of e.place) (doing d v) (inserting v)) ≡ used_at (lent ws ds t) cell.index cell.value (doing d v)

@@ -7,8 +7,8 @@ mod making;
 mod occupied;
 
 pub use entries::record::{CellAt, Entry, Place};
-pub use making::{EntrySaid, entry, key};
+pub use making::{entry, key};
 pub use occupied::{
-    EntryRemoveAnswer, EntryRemoveSaid, GetSaid, RemoveEntryAnswer, ReplaceSaid, get, remove,
+    EntryRemoveAnswer, EntryRemoveError, GetError, RemoveEntryAnswer, ReplaceError, get, remove,
     remove_entry, replace,
 };

@@ -1,8 +1,8 @@
 -- One outcome for each call of hashentry. Assumes nothing.
+use Rattle.std.specs.Prelude.{Result, Ok, Err}
 use mathlib.Core.List.{List}
 use mathlib.Core.Path.{◌≡◌, refl, ap}
 use Prim.Native.Nat.{ℕ, zero, suc}
-use Rattle.std.specs.Prelude.{Result, Ok, Err}
 use Rattle.rules.specs.Answers.{Said, found, absent, new, replaced, revived, removed, refused}
 use Rattle.rules.specs.Entries as rule
 use Rattle.rules.specs.Entries.{Making, made, refuses, entry_of, get_by, replace_by, remove_by}
@@ -50,7 +50,7 @@ unmake (refuses (suc (suc (suc n)))) = Err lookups.Broken
 unmake (refuses zero) = Err lookups.Broken
 
 make_back : (a : Result Entry LookupError) → unmake (making a) ≡ a
-make_back (Ok e) = ap (Ok {E = LookupError}) (entry_back e)
+make_back (Ok e) = ap Ok (entry_back e)
 make_back (Err lookups.Shape) = refl
 make_back (Err lookups.ZeroHash) = refl
 make_back (Err lookups.Broken) = refl
