@@ -79,7 +79,7 @@ impl Run {
         self.table = answer.table;
     }
 
-    // A bucket of the two, as a value.
+    // Bucket b of the two, or an empty one where there is none.
     fn bucket(&self, b: usize) -> Bucket {
         buckets::take_bucket(&self.words, &self.deltas, b).unwrap_or(Bucket::EMPTY)
     }

@@ -62,7 +62,8 @@ impl fmt::Display for Met {
     }
 }
 
-// For both halves as a Run lends them, though a remove writes the words alone.
+// A remove writes the words alone. A function of its own: a struct's field that is a `&mut` is not lent as `&` beside another that is
+// lent as `&mut`.
 fn remove_from(
     lower_words: &mut [u64],
     lower_deltas: &mut [u8],
