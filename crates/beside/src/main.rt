@@ -2,205 +2,155 @@
 // calls, and forged ones. Prints find's answer for each key, and whether the lookup over the buckets says the same.
 #![tactic(auto)]
 
-ghost use Rattle.std.specs.Prelude.{◌≡◌, [], ◌∷◌};
+ghost use Rattle.std.specs.Prelude.{◌≡◌};
 ghost use Rattle.rules.specs.Calls.{find as find·rule};
 ghost use Rattle.hashmap.specs.Answers.{find_answer};
 ghost use Rattle.bucketfind.specs.Slice.{buckets_lent};
 
 use buckets::Bucket;
 use hashers::Hasher;
-use hashmap::{ClearSaid, FindAnswer, FindSaid, Table};
-
-// Standard output.
-const STDOUT_FILENO: i32 = 1;
+use hashmap::{FindAnswer, LookupError, Table};
+use std::{fmt, io};
 
 // The lookup over two buckets, which are lent as a slice.
-fn find_two(first: Bucket, second: Bucket, table: Table, key: u64) -> FindAnswer
-    ensures { find_answer result ≡ find·rule (buckets_lent (first ∷ second ∷ []) table) key }
+fn find_two(two: [Bucket; 2], table: Table, key: u64) -> FindAnswer
+    ensures { find_answer result ≡ find·rule (buckets_lent two table) key }
 {
-    let two = [first, second];
     bucketfind::find(&two, table, key)
 }
 
-fn text(bytes: &[u8]) {
-    io::write_all(STDOUT_FILENO, bytes);
-}
+// What a find says, or the number of its refusal; and how many cells it looked at.
+#[derive(Clone, Copy)]
+struct Shown(FindAnswer);
 
-fn number(n: u64) {
-    io::print_decimal(STDOUT_FILENO, n);
-}
-
-fn say(said: FindSaid, looked: usize) {
-    match said {
-        FindSaid::Found(value) => {
-            text(b"Found ");
-            number(value);
+impl fmt::Display for Shown {
+    fn fmt<W: fmt::Write>(&self, f: &mut fmt::Formatter<W>) -> fmt::Result {
+        match self.0.said {
+            Ok(Some(value)) => write!(f, "Found {value}")?,
+            Ok(None) => f.write_str("Absent")?,
+            Err(LookupError::Shape) => f.write_str("1")?,
+            Err(LookupError::ZeroHash) => f.write_str("2")?,
+            Err(LookupError::Broken) => f.write_str("5")?,
         }
-        FindSaid::Absent => text(b"Absent"),
-        FindSaid::Shape => text(b"1"),
-        FindSaid::ZeroHash => text(b"2"),
-        FindSaid::Broken => text(b"5"),
-    }
-    text(b", looked ");
-    number(looked as u64);
-}
-
-// A number for each case, and the value that it carries, or 0.
-fn kind_of(said: FindSaid) -> u64 {
-    match said {
-        FindSaid::Found(_) => 0,
-        FindSaid::Absent => 9,
-        FindSaid::Shape => 1,
-        FindSaid::ZeroHash => 2,
-        FindSaid::Broken => 5,
+        write!(f, ", looked {}", self.0.looked)
     }
 }
 
-fn value_of(said: FindSaid) -> u64 {
-    match said {
-        FindSaid::Found(value) => value,
-        FindSaid::Absent | FindSaid::Shape | FindSaid::ZeroHash | FindSaid::Broken => 0,
-    }
+// A table of eight cells, and the arrays that it lies in.
+#[derive(Clone, Copy)]
+struct Run {
+    words: [u64; 24],
+    deltas: [u8; 16],
+    table: Table,
 }
 
-fn same(a: FindAnswer, b: FindAnswer) -> bool {
-    let x = a.said;
-    let y = b.said;
-    if kind_of(x) == kind_of(y) {
-        if value_of(x) == value_of(y) {
-            return a.looked == b.looked;
+impl Run {
+    // A record that every call refuses: what a table is before it is cleared.
+    const REFUSED: Table = Table {
+        hasher: Hasher::Simple,
+        live: 65537,
+    };
+
+    fn new() -> Run {
+        Run {
+            words: [0; 24],
+            deltas: [0; 16],
+            table: Run::REFUSED,
         }
     }
-    false
-}
 
-fn find(words: &[u64], deltas: &[u8], table: Table, key: u64) {
-    let flat = hashmap::find(words, deltas, table, key);
-    let first = buckets::take_bucket(words, deltas, 0);
-    let second = buckets::take_bucket(words, deltas, 1);
-    let a = first.bucket;
-    let b = second.bucket;
-    let over = find_two(a, b, table, key);
-    text(b"find ");
-    number(key);
-    text(b": ");
-    let said = flat.said;
-    say(said, flat.looked);
-    if same(flat, over) {
-        text(b"; over buckets the same\n");
-    } else {
-        text(b"; over buckets ");
-        let other = over.said;
-        say(other, over.looked);
-        text(b"\n");
+    // Makes the table anew.
+    fn clear(&mut self, hasher: Hasher) {
+        let cleared = hashmap::clear(&mut self.words, &mut self.deltas, hasher);
+        self.table = cleared.unwrap_or(Run::REFUSED);
     }
-}
 
-// A fresh table; for slices of a wrong length a record that every call refuses.
-fn fresh(words: &mut [u64], deltas: &mut [u8], hasher: Hasher) -> Table {
-    match hashmap::clear(words, deltas, hasher) {
-        ClearSaid::Cleared(table) => table,
-        ClearSaid::Shape => Table {
-            hasher,
-            live: 65537,
-        },
+    // Inserts keys, the value of each 100 more than the key.
+    fn insert(&mut self, keys: &[u64]) {
+        for &key in keys {
+            let value = key.wrapping_add(100);
+            let answer = hashmap::insert(&mut self.words, &mut self.deltas, self.table, key, value);
+            self.table = answer.table;
+        }
     }
-}
 
-fn insert(words: &mut [u64], deltas: &mut [u8], table: Table, key: u64, value: u64) -> Table {
-    hashmap::insert(words, deltas, table, key, value).table
-}
+    fn remove(&mut self, key: u64) {
+        let answer = hashmap::remove(&mut self.words, &self.deltas, self.table, key);
+        self.table = answer.table;
+    }
 
-// Two keys, the value of each 100 more than the key.
-fn insert_two(words: &mut [u64], deltas: &mut [u8], table: Table, a: u64, b: u64) -> Table {
-    let t = insert(words, deltas, table, a, std::num::wrapping_add_u64(a, 100));
-    insert(words, deltas, t, b, std::num::wrapping_add_u64(b, 100))
-}
+    // Bucket b of the two, or an empty one where there is none.
+    fn bucket(&self, b: usize) -> Bucket {
+        buckets::take_bucket(&self.words, &self.deltas, b).unwrap_or(Bucket::EMPTY)
+    }
 
-fn three(words: &[u64], deltas: &[u8], table: Table, a: u64, b: u64, c: u64) {
-    find(words, deltas, table, a);
-    find(words, deltas, table, b);
-    find(words, deltas, table, c);
+    fn find(&self, rt: &impl Print, keys: &[u64]) -> io::Result<()> {
+        for &key in keys {
+            let flat = hashmap::find(&self.words, &self.deltas, self.table, key);
+            let over = find_two([self.bucket(0), self.bucket(1)], self.table, key);
+            print!(rt; "find {key}: {}; over buckets ", Shown(flat))?;
+            if flat.said == over.said && flat.looked == over.looked {
+                println!(rt; "the same")?;
+            } else {
+                println!(rt; "{}", Shown(over))?;
+            }
+        }
+        Ok(())
+    }
 }
 
 // Document 01's example 1, and a key that is not there; then one is removed.
-fn chained(words: &mut [u64], deltas: &mut [u8]) {
-    text(b"8, 16, 24, 1\n");
-    let t = fresh(words, deltas, Hasher::Simple);
-    let t = insert_two(words, deltas, t, 8, 16);
-    let t = insert_two(words, deltas, t, 24, 1);
-    chained_found(words, deltas, t);
-}
-
-fn chained_found(words: &mut [u64], deltas: &mut [u8], table: Table) {
-    three(words, deltas, table, 8, 16, 24);
-    three(words, deltas, table, 1, 32, 0);
-    text(b"16 removed\n");
-    let t = hashmap::remove(words, deltas, table, 16).table;
-    three(words, deltas, t, 8, 16, 24);
+fn chained(rt: &impl Print, run: &mut Run) -> io::Result<()> {
+    println!(rt; "8, 16, 24, 1")?;
+    run.clear(Hasher::Simple);
+    run.insert(&[8, 16, 24, 1]);
+    run.find(rt, &[8, 16, 24, 1, 32, 0])?;
+    println!(rt; "16 removed")?;
+    run.remove(16);
+    run.find(rt, &[8, 16, 24])
 }
 
 // Positions wrap at 2^64.
-fn wrapped(words: &mut [u64], deltas: &mut [u8]) {
-    text(b"2^64-1, 2^64-9\n");
-    let t = fresh(words, deltas, Hasher::Simple);
-    let t = insert_two(
-        words,
-        deltas,
-        t,
-        0xffff_ffff_ffff_ffff,
-        0xffff_ffff_ffff_fff7,
-    );
-    three(
-        words,
-        deltas,
-        t,
-        0xffff_ffff_ffff_ffff,
-        0xffff_ffff_ffff_fff7,
-        7,
-    );
+fn wrapped(rt: &impl Print, run: &mut Run) -> io::Result<()> {
+    println!(rt; "2^64-1, 2^64-9")?;
+    run.clear(Hasher::Simple);
+    run.insert(&[u64::MAX, u64::MAX - 8]);
+    run.find(rt, &[u64::MAX, u64::MAX - 8, 7])
 }
 
-fn hashed(words: &mut [u64], deltas: &mut [u8], hasher: Hasher) {
-    let t = fresh(words, deltas, hasher);
-    let t = insert_two(words, deltas, t, 0, 1);
-    let t = insert_two(words, deltas, t, 2, 3);
-    three(words, deltas, t, 0, 1, 2);
-    three(words, deltas, t, 3, 4, 5);
+fn hashed(rt: &impl Print, run: &mut Run) -> io::Result<()> {
+    for (name, hasher) in [("Murmur", Hasher::Murmur), ("Fnv", Hasher::Fnv)] {
+        println!(rt; "0, 1, 2, 3 under {name}")?;
+        run.clear(hasher);
+        run.insert(&[0, 1, 2, 3]);
+        run.find(rt, &[0, 1, 2, 3, 4, 5])?;
+    }
+    Ok(())
 }
 
 // A chain that never ends, and a record whose live is above S.
-fn forged(words: &[u64], deltas: &[u8]) {
-    text(b"every delta 1\n");
-    let t = Table {
-        hasher: Hasher::Simple,
-        live: 8,
+fn forged(rt: &impl Print) -> io::Result<()> {
+    let mut run = Run {
+        words: [0; 24],
+        deltas: [1; 16],
+        table: Table {
+            hasher: Hasher::Simple,
+            live: 8,
+        },
     };
-    three(words, deltas, t, 8, 13, 16);
-    text(b"live 9\n");
-    let t = Table {
-        hasher: Hasher::Simple,
-        live: 9,
-    };
-    find(words, deltas, t, 8);
+    run.words[..3].copy_from_slice(&[8, 8, Table::NULL]);
+    run.words[15..18].copy_from_slice(&[13, 13, 130]);
+    println!(rt; "every delta 1")?;
+    run.find(rt, &[8, 13, 16])?;
+    println!(rt; "live 9")?;
+    run.table.live = 9;
+    run.find(rt, &[8])
 }
 
-fn main() {
-    let mut words = [0u64; 24];
-    let mut deltas = [0u8; 16];
-    chained(&mut words, &mut deltas);
-    wrapped(&mut words, &mut deltas);
-    text(b"0, 1, 2, 3 under Murmur\n");
-    hashed(&mut words, &mut deltas, Hasher::Murmur);
-    text(b"0, 1, 2, 3 under Fnv\n");
-    hashed(&mut words, &mut deltas, Hasher::Fnv);
-    let mut ones = [0u64; 24];
-    ones[15] = 13;
-    ones[16] = 13;
-    ones[17] = 130;
-    ones[0] = 8;
-    ones[1] = 8;
-    ones[2] = 0xffff_ffff_ffff_fffe;
-    let links = [1u8; 16];
-    forged(&ones, &links);
+fn main(rt: HostRuntime) -> io::Result<()> {
+    let mut run = Run::new();
+    chained(&rt, &mut run)?;
+    wrapped(&rt, &mut run)?;
+    hashed(&rt, &mut run)?;
+    forged(&rt)
 }

@@ -2,435 +2,238 @@
 // table is afterwards. The file stdout beside src/ is written from document 01.
 #![tactic(auto)]
 
-use growth::{GrowAnswer, GrowSaid};
-use halves::{ClearHalvesSaid, FindSaid, RemoveSaid};
+use growth::GrowError;
+use halves::GrowingRemoveAnswer;
 use hashers::Hasher;
-use hashmap::Table;
+use hashmap::{InsertSaid, LookupError, Table};
 use parts::{Growing, Half};
-use std::num::wrapping_add_u64;
-
-// Standard output.
-const STDOUT_FILENO: i32 = 1;
-
-fn text(bytes: &[u8]) {
-    io::write_all(STDOUT_FILENO, bytes);
-}
-
-fn number(n: u64) {
-    io::print_decimal(STDOUT_FILENO, n);
-}
-
-fn labelled(label: &[u8], n: u64) {
-    text(label);
-    number(n);
-}
+use std::{fmt, io};
 
 // Live, and where the table is.
-fn tell_where(growing: Growing) {
-    let table = growing.table;
-    let half = growing.half;
-    labelled(b", live ", table.live as u64);
-    labelled(b", size ", growing.size as u64);
-    match half {
-        Half::Lower => text(b", lower half\n"),
-        Half::Upper => text(b", upper half\n"),
+#[derive(Clone, Copy)]
+struct Place(Growing);
+
+impl fmt::Display for Place {
+    fn fmt<W: fmt::Write>(&self, f: &mut fmt::Formatter<W>) -> fmt::Result {
+        let half = match self.0.half {
+            Half::Lower => "lower",
+            Half::Upper => "upper",
+        };
+        write!(
+            f,
+            "live {}, size {}, {half} half",
+            self.0.table.live, self.0.size
+        )
     }
 }
 
-fn tell_grown(said: GrowSaid) {
-    match said {
-        GrowSaid::New => text(b": New"),
-        GrowSaid::Replaced(old) => labelled(b": Replaced ", old),
-        GrowSaid::Revived => text(b": Revived"),
-        GrowSaid::Shape => text(b": 1"),
-        GrowSaid::ZeroHash => text(b": 2"),
-        GrowSaid::Null => text(b": 3"),
-        GrowSaid::Broken => text(b": 5"),
-        GrowSaid::NoRoom => text(b": NoRoom"),
+// What an insert says: its case, or the number of its refusal.
+#[derive(Clone, Copy)]
+struct Inserted(Result<InsertSaid, GrowError>);
+
+impl fmt::Display for Inserted {
+    fn fmt<W: fmt::Write>(&self, f: &mut fmt::Formatter<W>) -> fmt::Result {
+        match self.0 {
+            Ok(InsertSaid::New) => f.write_str("New"),
+            Ok(InsertSaid::Replaced(old)) => write!(f, "Replaced {old}"),
+            Ok(InsertSaid::Revived) => f.write_str("Revived"),
+            Err(GrowError::Shape) => f.write_str("1"),
+            Err(GrowError::ZeroHash) => f.write_str("2"),
+            Err(GrowError::Null) => f.write_str("3"),
+            Err(GrowError::Broken) => f.write_str("5"),
+            Err(GrowError::NoRoom) => f.write_str("NoRoom"),
+        }
     }
 }
 
-fn tell(answer: GrowAnswer) {
-    let said = answer.said;
-    let growing = answer.growing;
-    tell_grown(said);
-    labelled(b", looked ", answer.looked as u64);
-    labelled(b", moves ", answer.moves as u64);
-    tell_where(growing);
+// What a lookup or a remove says: the value behind this word, or the number of its refusal.
+#[derive(Clone, Copy)]
+struct Met(&'static str, Result<Option<u64>, LookupError>);
+
+impl fmt::Display for Met {
+    fn fmt<W: fmt::Write>(&self, f: &mut fmt::Formatter<W>) -> fmt::Result {
+        match self.1 {
+            Ok(Some(value)) => write!(f, "{} {value}", self.0),
+            Ok(None) => f.write_str("Absent"),
+            Err(LookupError::Shape) => f.write_str("1"),
+            Err(LookupError::ZeroHash) => f.write_str("2"),
+            Err(LookupError::Broken) => f.write_str("5"),
+        }
+    }
 }
 
-fn insert(
+// A remove writes the words alone. A function of its own: a struct's field that is a `&mut` is not lent as `&` beside another that is
+// lent as `&mut`.
+fn remove_from(
     lower_words: &mut [u64],
     lower_deltas: &mut [u8],
     upper_words: &mut [u64],
     upper_deltas: &mut [u8],
     growing: Growing,
     key: u64,
-    value: u64,
-) -> Growing {
-    let answer = growth::insert(
+) -> GrowingRemoveAnswer {
+    halves::remove(
         lower_words,
         lower_deltas,
         upper_words,
         upper_deltas,
         growing,
         key,
-        value,
-    );
-    labelled(b"insert ", key);
-    tell(answer);
-    answer.growing
+    )
 }
 
-fn tell_found(said: FindSaid) {
-    match said {
-        FindSaid::Found(value) => labelled(b": Found ", value),
-        FindSaid::Absent => text(b": Absent"),
-        FindSaid::Shape => text(b": 1"),
-        FindSaid::ZeroHash => text(b": 2"),
-        FindSaid::Broken => text(b": 5"),
-    }
-}
-
-fn find(
-    lower_words: &[u64],
-    lower_deltas: &[u8],
-    upper_words: &[u64],
-    upper_deltas: &[u8],
+// A growing table with the two halves that it lies in, lent, since they are too large to be moved. Its calls print what they are
+// answered.
+#[derive(Drop)]
+struct Run<'a> {
+    lower_words: &'a mut [u64],
+    lower_deltas: &'a mut [u8],
+    upper_words: &'a mut [u64],
+    upper_deltas: &'a mut [u8],
     growing: Growing,
-    key: u64,
-) {
-    let answer = halves::find(
-        lower_words,
-        lower_deltas,
-        upper_words,
-        upper_deltas,
-        growing,
-        key,
-    );
-    let said = answer.said;
-    labelled(b"find ", key);
-    tell_found(said);
-    labelled(b", looked ", answer.looked as u64);
-    text(b"\n");
 }
 
-fn tell_removed(said: RemoveSaid) {
-    match said {
-        RemoveSaid::Removed(value) => labelled(b": Removed ", value),
-        RemoveSaid::Absent => text(b": Absent"),
-        RemoveSaid::Shape => text(b": 1"),
-        RemoveSaid::ZeroHash => text(b": 2"),
-        RemoveSaid::Broken => text(b": 5"),
-    }
-}
-
-fn remove(
-    lower_words: &mut [u64],
-    lower_deltas: &[u8],
-    upper_words: &mut [u64],
-    upper_deltas: &[u8],
-    growing: Growing,
-    key: u64,
-) -> Growing {
-    let answer = halves::remove(
-        lower_words,
-        lower_deltas,
-        upper_words,
-        upper_deltas,
-        growing,
-        key,
-    );
-    let said = answer.said;
-    let growing = answer.growing;
-    labelled(b"remove ", key);
-    tell_removed(said);
-    labelled(b", looked ", answer.looked as u64);
-    tell_where(growing);
-    answer.growing
-}
-
-// A fresh growing table in the lower half; for slices of wrong lengths a record that every call refuses.
-fn fresh(
-    lower_words: &mut [u64],
-    lower_deltas: &mut [u8],
-    upper_words: &mut [u64],
-    upper_deltas: &mut [u8],
-    size: usize,
-) -> Growing {
-    match halves::clear_halves(
-        lower_words,
-        lower_deltas,
-        upper_words,
-        upper_deltas,
-        size,
-        Hasher::Simple,
-    ) {
-        ClearHalvesSaid::Cleared(growing) => growing,
-        ClearHalvesSaid::Shape => Growing {
+impl<'a> Run<'a> {
+    // A fresh growing table in the lower half; for slices of wrong lengths a record that every call refuses.
+    fn fresh(
+        lower_words: &'a mut [u64],
+        lower_deltas: &'a mut [u8],
+        upper_words: &'a mut [u64],
+        upper_deltas: &'a mut [u8],
+        size: usize,
+    ) -> Run<'a> {
+        let hasher = Hasher::Simple;
+        let growing = halves::clear_halves(
+            lower_words,
+            lower_deltas,
+            upper_words,
+            upper_deltas,
+            size,
+            hasher,
+        )
+        .unwrap_or(Growing {
             table: Table {
-                hasher: Hasher::Simple,
+                hasher,
                 live: 65537,
             },
             size,
             half: Half::Lower,
-        },
-    }
-}
-
-// So many keys, each so far from the one before, with the values 0, 1 and so on.
-fn insert_keys(
-    lower_words: &mut [u64],
-    lower_deltas: &mut [u8],
-    upper_words: &mut [u64],
-    upper_deltas: &mut [u8],
-    growing: Growing,
-    first: u64,
-    step: u64,
-    count: u64,
-) -> Growing {
-    let mut now = growing;
-    let mut key = first;
-    for j in 0..count {
-        now = insert(
+        });
+        Run {
             lower_words,
             lower_deltas,
             upper_words,
             upper_deltas,
-            now,
-            key,
-            j,
-        );
-        key = wrapping_add_u64(key, step);
+            growing,
+        }
     }
-    now
-}
 
-fn lookups(
-    lower_words: &[u64],
-    lower_deltas: &[u8],
-    upper_words: &[u64],
-    upper_deltas: &[u8],
-    growing: Growing,
-) {
-    find(
-        lower_words,
-        lower_deltas,
-        upper_words,
-        upper_deltas,
-        growing,
-        1,
-    );
-    find(
-        lower_words,
-        lower_deltas,
-        upper_words,
-        upper_deltas,
-        growing,
-        0x7f_0000_0002,
-    );
-    find(
-        lower_words,
-        lower_deltas,
-        upper_words,
-        upper_deltas,
-        growing,
-        0x1_0000_0001,
-    );
-}
+    fn insert(&mut self, rt: &impl Print, key: u64, value: u64) -> io::Result<()> {
+        let answer = growth::insert(
+            self.lower_words,
+            self.lower_deltas,
+            self.upper_words,
+            self.upper_deltas,
+            self.growing,
+            key,
+            value,
+        );
+        self.growing = answer.growing;
+        println!(rt;
+            "insert {key}: {}, looked {}, moves {}, {}",
+            Inserted(answer.said),
+            answer.looked,
+            answer.moves,
+            Place(answer.growing)
+        )
+    }
 
-// A fresh table of 256 cells with the key 1.
-fn with_one(
-    lower_words: &mut [u64],
-    lower_deltas: &mut [u8],
-    upper_words: &mut [u64],
-    upper_deltas: &mut [u8],
-) -> Growing {
-    let now = fresh(lower_words, lower_deltas, upper_words, upper_deltas, 256);
-    insert(
-        lower_words,
-        lower_deltas,
-        upper_words,
-        upper_deltas,
-        now,
-        1,
-        500,
-    )
-}
-
-// Then 2 + j * 2^32 for j from 0 to 127: they have one home at every size.
-fn crowded(
-    lower_words: &mut [u64],
-    lower_deltas: &mut [u8],
-    upper_words: &mut [u64],
-    upper_deltas: &mut [u8],
-) -> Growing {
-    let now = with_one(lower_words, lower_deltas, upper_words, upper_deltas);
-    insert_keys(
-        lower_words,
-        lower_deltas,
-        upper_words,
-        upper_deltas,
-        now,
-        2,
-        0x1_0000_0000,
-        128,
-    )
-}
-
-// And 1 + 2^32, whose home is cell 1 at every size: there is no room for it.
-fn last_of_all(
-    lower_words: &mut [u64],
-    lower_deltas: &mut [u8],
-    upper_words: &mut [u64],
-    upper_deltas: &mut [u8],
-    growing: Growing,
-) {
-    let now = insert(
-        lower_words,
-        lower_deltas,
-        upper_words,
-        upper_deltas,
-        growing,
-        0x1_0000_0001,
-        1000,
-    );
-    lookups(lower_words, lower_deltas, upper_words, upper_deltas, now);
-}
-
-fn eleven(
-    lower_words: &mut [u64],
-    lower_deltas: &mut [u8],
-    upper_words: &mut [u64],
-    upper_deltas: &mut [u8],
-) {
-    text(b"example 11: S = 256, C = 65536\n");
-    let now = crowded(lower_words, lower_deltas, upper_words, upper_deltas);
-    last_of_all(lower_words, lower_deltas, upper_words, upper_deltas, now);
-}
-
-// Removes the keys from one up to another.
-fn remove_keys(
-    lower_words: &mut [u64],
-    lower_deltas: &[u8],
-    upper_words: &mut [u64],
-    upper_deltas: &[u8],
-    growing: Growing,
-    first: u64,
-    end: u64,
-) -> Growing {
-    let mut now = growing;
-    for key in first..end {
-        now = remove(
-            lower_words,
-            lower_deltas,
-            upper_words,
-            upper_deltas,
-            now,
+    fn find(&self, rt: &impl Print, key: u64) -> io::Result<()> {
+        let answer = halves::find(
+            self.lower_words,
+            self.lower_deltas,
+            self.upper_words,
+            self.upper_deltas,
+            self.growing,
             key,
         );
+        println!(rt;
+            "find {key}: {}, looked {}",
+            Met("Found", answer.said),
+            answer.looked
+        )
     }
-    now
+
+    fn remove(&mut self, rt: &impl Print, key: u64) -> io::Result<()> {
+        let answer = remove_from(
+            self.lower_words,
+            self.lower_deltas,
+            self.upper_words,
+            self.upper_deltas,
+            self.growing,
+            key,
+        );
+        self.growing = answer.growing;
+        println!(rt;
+            "remove {key}: {}, looked {}, {}",
+            Met("Removed", answer.said),
+            answer.looked,
+            Place(answer.growing)
+        )
+    }
 }
 
-// A fresh table of 8 cells with the keys 1 to 8.
-fn with_eight(
-    lower_words: &mut [u64],
-    lower_deltas: &mut [u8],
-    upper_words: &mut [u64],
-    upper_deltas: &mut [u8],
-) -> Growing {
-    let now = fresh(lower_words, lower_deltas, upper_words, upper_deltas, 8);
-    insert_keys(
-        lower_words,
-        lower_deltas,
-        upper_words,
-        upper_deltas,
-        now,
-        1,
-        1,
+// A table of 256 cells with the key 1; then 2 + j * 2^32 for j from 0 to 127: they have one home at every size. And 1 + 2^32, whose
+// home is cell 1 at every size: there is no room for it.
+fn eleven(rt: &impl Print) -> io::Result<()> {
+    println!(rt; "example 11: S = 256, C = 65536")?;
+    let mut lower_words = [0; 196608];
+    let mut lower_deltas = [0; 131072];
+    let mut upper_words = [0; 196608];
+    let mut upper_deltas = [0; 131072];
+    let mut run = Run::fresh(
+        &mut lower_words,
+        &mut lower_deltas,
+        &mut upper_words,
+        &mut upper_deltas,
+        256,
+    );
+    run.insert(rt, 1, 500)?;
+    for j in 0..128 {
+        run.insert(rt, 2 + j * 0x1_0000_0000, j)?;
+    }
+    run.insert(rt, 0x1_0000_0001, 1000)?;
+    for key in [1, 0x7f_0000_0002, 0x1_0000_0001] {
+        run.find(rt, key)?;
+    }
+    Ok(())
+}
+
+// A table of 8 cells with the keys 1 to 8, of which this many stay. Then one more.
+fn eight(rt: &impl Print, live: u8) -> io::Result<()> {
+    println!(rt; "example 8: S = 8, C = 8, live {live}")?;
+    let mut lower_words = [0; 24];
+    let mut lower_deltas = [0; 16];
+    let mut upper_words = [0; 24];
+    let mut upper_deltas = [0; 16];
+    let mut run = Run::fresh(
+        &mut lower_words,
+        &mut lower_deltas,
+        &mut upper_words,
+        &mut upper_deltas,
         8,
-    )
+    );
+    for key in 1..=8 {
+        run.insert(rt, key, key - 1)?;
+    }
+    for key in u64::from(live) + 1..=8 {
+        run.remove(rt, key)?;
+    }
+    run.insert(rt, 9, 90)
 }
 
-// Of which those from one on are removed.
-fn with_fewer(
-    lower_words: &mut [u64],
-    lower_deltas: &mut [u8],
-    upper_words: &mut [u64],
-    upper_deltas: &mut [u8],
-    first: u64,
-) -> Growing {
-    let now = with_eight(lower_words, lower_deltas, upper_words, upper_deltas);
-    remove_keys(
-        lower_words,
-        lower_deltas,
-        upper_words,
-        upper_deltas,
-        now,
-        first,
-        9,
-    )
-}
-
-fn eight(
-    lower_words: &mut [u64],
-    lower_deltas: &mut [u8],
-    upper_words: &mut [u64],
-    upper_deltas: &mut [u8],
-    live: u64,
-) {
-    labelled(b"example 8: S = 8, C = 8, live ", live);
-    text(b"\n");
-    let now = with_fewer(
-        lower_words,
-        lower_deltas,
-        upper_words,
-        upper_deltas,
-        wrapping_add_u64(live, 1),
-    );
-    insert(
-        lower_words,
-        lower_deltas,
-        upper_words,
-        upper_deltas,
-        now,
-        9,
-        90,
-    );
-}
-
-fn examples_of_eight() {
-    let mut lower_words = [0u64; 24];
-    let mut lower_deltas = [0u8; 16];
-    let mut upper_words = [0u64; 24];
-    let mut upper_deltas = [0u8; 16];
-    eight(
-        &mut lower_words,
-        &mut lower_deltas,
-        &mut upper_words,
-        &mut upper_deltas,
-        4,
-    );
-    eight(
-        &mut lower_words,
-        &mut lower_deltas,
-        &mut upper_words,
-        &mut upper_deltas,
-        5,
-    );
-}
-
-fn main() {
-    examples_of_eight();
-    let mut lower_words = [0u64; 196608];
-    let mut lower_deltas = [0u8; 131072];
-    let mut upper_words = [0u64; 196608];
-    let mut upper_deltas = [0u8; 131072];
-    eleven(
-        &mut lower_words,
-        &mut lower_deltas,
-        &mut upper_words,
-        &mut upper_deltas,
-    );
+fn main(rt: HostRuntime) -> io::Result<()> {
+    eight(&rt, 4)?;
+    eight(&rt, 5)?;
+    eleven(&rt)
 }

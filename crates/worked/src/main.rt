@@ -4,7 +4,7 @@
 #![tactic(auto)]
 
 use hashers::Hasher;
-use hashmap::{InsertAnswer, InsertError, InsertSaid, LookupError, RemoveAnswer, Table};
+use hashmap::{InsertAnswer, InsertError, InsertSaid, LookupError, Table};
 use std::{fmt, io};
 
 // What an insert says: its case, or the number of its refusal.
@@ -42,37 +42,43 @@ impl fmt::Display for Met {
     }
 }
 
-// For both slices as a Run lends them, though a remove writes the words alone.
-fn remove_from(words: &mut [u64], deltas: &mut [u8], table: Table, key: u64) -> RemoveAnswer {
-    hashmap::remove(words, deltas, table, key)
-}
-
-// A table with the slices that it lies in. Its calls print what they are answered.
-#[derive(Drop)]
-struct Run<'a> {
-    words: &'a mut [u64],
-    deltas: &'a mut [u8],
+// A table, and the arrays that it lies in. Its calls print what they are answered.
+#[derive(Clone, Copy)]
+struct Run<const WORDS: usize, const DELTAS: usize> {
+    words: [u64; WORDS],
+    deltas: [u8; DELTAS],
     table: Table,
 }
 
-impl<'a> Run<'a> {
-    // A fresh table; for slices of a wrong length a record that every call refuses.
-    fn fresh(words: &'a mut [u64], deltas: &'a mut [u8]) -> Run<'a> {
-        let hasher = Hasher::Simple;
-        let table = hashmap::clear(words, deltas, hasher).unwrap_or(Table {
-            hasher,
-            live: 65537,
-        });
+// Tables of 8 cells, and of 256.
+type Small = Run<24, 16>;
+
+type Large = Run<768, 512>;
+
+impl<const WORDS: usize, const DELTAS: usize> Run<WORDS, DELTAS> {
+    // A record that every call refuses: what a table is before it is cleared.
+    const REFUSED: Table = Table {
+        hasher: Hasher::Simple,
+        live: 65537,
+    };
+
+    fn new() -> Self {
         Run {
-            words,
-            deltas,
-            table,
+            words: [0; WORDS],
+            deltas: [0; DELTAS],
+            table: Self::REFUSED,
         }
+    }
+
+    // Makes the table anew.
+    fn clear(&mut self) {
+        let cleared = hashmap::clear(&mut self.words, &mut self.deltas, Hasher::Simple);
+        self.table = cleared.unwrap_or(Self::REFUSED);
     }
 
     // Inserts, and prints nothing.
     fn put(&mut self, key: u64, value: u64) -> InsertAnswer {
-        let answer = hashmap::insert(self.words, self.deltas, self.table, key, value);
+        let answer = hashmap::insert(&mut self.words, &mut self.deltas, self.table, key, value);
         self.table = answer.table;
         answer
     }
@@ -87,7 +93,7 @@ impl<'a> Run<'a> {
     }
 
     fn find(&self, rt: &impl Print, key: u64) -> io::Result<()> {
-        let answer = hashmap::find(self.words, self.deltas, self.table, key);
+        let answer = hashmap::find(&self.words, &self.deltas, self.table, key);
         println!(rt;
             "find {key}: {}, looked {}",
             Met("Found", answer.said),
@@ -96,7 +102,7 @@ impl<'a> Run<'a> {
     }
 
     fn remove(&mut self, rt: &impl Print, key: u64) -> io::Result<()> {
-        let answer = remove_from(self.words, self.deltas, self.table, key);
+        let answer = hashmap::remove(&mut self.words, &self.deltas, self.table, key);
         self.table = answer.table;
         println!(rt;
             "remove {key}: {}, looked {}",
@@ -136,7 +142,7 @@ impl<'a> Run<'a> {
 
     fn show_deltas(&self, rt: &impl Print) -> io::Result<()> {
         print!(rt; "deltas")?;
-        for delta in self.deltas.iter() {
+        for delta in &self.deltas {
             print!(rt; " {delta}")?;
         }
         println!(rt; "")
@@ -149,9 +155,9 @@ impl<'a> Run<'a> {
     }
 }
 
-fn one_and_two(rt: &impl Print, words: &mut [u64], deltas: &mut [u8]) -> io::Result<()> {
+fn one_and_two(rt: &impl Print, run: &mut Small) -> io::Result<()> {
     println!(rt; "example 1")?;
-    let mut run = Run::fresh(words, deltas);
+    run.clear();
     run.inserts(rt, &[(8, 80), (16, 160), (24, 240), (1, 10)])?;
     run.show_keys(rt)?;
     run.show_deltas(rt)?;
@@ -160,9 +166,9 @@ fn one_and_two(rt: &impl Print, words: &mut [u64], deltas: &mut [u8]) -> io::Res
 }
 
 // The keys 1 to 8, each in its home, then two that find no room.
-fn three_and_four(rt: &impl Print, words: &mut [u64], deltas: &mut [u8]) -> io::Result<()> {
+fn three_and_four(rt: &impl Print, run: &mut Small) -> io::Result<()> {
     println!(rt; "example 3")?;
-    let mut run = Run::fresh(words, deltas);
+    run.clear();
     for key in 1..10 {
         run.insert(rt, key, 10 * key)?;
     }
@@ -172,17 +178,17 @@ fn three_and_four(rt: &impl Print, words: &mut [u64], deltas: &mut [u8]) -> io::
 }
 
 // Positions wrap at 2^64.
-fn five(rt: &impl Print, words: &mut [u64], deltas: &mut [u8]) -> io::Result<()> {
+fn five(rt: &impl Print, run: &mut Small) -> io::Result<()> {
     println!(rt; "example 5")?;
-    let mut run = Run::fresh(words, deltas);
+    run.clear();
     run.inserts(rt, &[(u64::MAX, 1), (u64::MAX - 8, 2)])?;
     run.show_all(rt)
 }
 
 // A removed key comes back; then a key of hash 0, the null value, and the value after it.
-fn six_and_seven(rt: &impl Print, words: &mut [u64], deltas: &mut [u8]) -> io::Result<()> {
+fn six_and_seven(rt: &impl Print, run: &mut Small) -> io::Result<()> {
     println!(rt; "example 6")?;
-    let mut run = Run::fresh(words, deltas);
+    run.clear();
     run.insert(rt, 5, 50)?;
     run.remove(rt, 5)?;
     run.insert(rt, 5, 51)?;
@@ -193,8 +199,8 @@ fn six_and_seven(rt: &impl Print, words: &mut [u64], deltas: &mut [u8]) -> io::R
 }
 
 // 1, then 2+256j for so many j, then 257.
-fn crowded(rt: &impl Print, words: &mut [u64], deltas: &mut [u8], count: u8) -> io::Result<()> {
-    let mut run = Run::fresh(words, deltas);
+fn crowded(rt: &impl Print, run: &mut Large, count: u8) -> io::Result<()> {
+    run.clear();
     run.put(1, 1);
     run.fill(count);
     run.insert(rt, 257, 3)?;
@@ -208,12 +214,11 @@ fn crowded(rt: &impl Print, words: &mut [u64], deltas: &mut [u8], count: u8) -> 
 // The same requests in two orders, with the order on each key kept: the pairs before the key 16 is taken out, and those after.
 fn in_order(
     rt: &impl Print,
-    words: &mut [u64],
-    deltas: &mut [u8],
+    run: &mut Small,
     before: &[(u64, u64)],
     after: &[(u64, u64)],
 ) -> io::Result<()> {
-    let mut run = Run::fresh(words, deltas);
+    run.clear();
     run.inserts(rt, before)?;
     run.remove(rt, 16)?;
     run.inserts(rt, after)?;
@@ -224,54 +229,38 @@ fn in_order(
     Ok(())
 }
 
-fn any_order(rt: &impl Print, words: &mut [u64], deltas: &mut [u8]) -> io::Result<()> {
+fn any_order(rt: &impl Print, run: &mut Small) -> io::Result<()> {
     println!(rt; "any order, S = 8\none order")?;
-    in_order(
-        rt,
-        words,
-        deltas,
-        &[(8, 80), (16, 160), (1, 10)],
-        &[(16, 161)],
-    )?;
+    in_order(rt, run, &[(8, 80), (16, 160), (1, 10)], &[(16, 161)])?;
     println!(rt; "another order")?;
-    in_order(
-        rt,
-        words,
-        deltas,
-        &[(1, 10), (16, 160)],
-        &[(8, 80), (16, 161)],
-    )
+    in_order(rt, run, &[(1, 10), (16, 160)], &[(8, 80), (16, 161)])
 }
 
 // Example 10's keys with 257 second: none is Full. Above 128 cells, then, Full may appear in one order only.
-fn early(rt: &impl Print, words: &mut [u64], deltas: &mut [u8]) -> io::Result<()> {
+fn early(rt: &impl Print, run: &mut Large) -> io::Result<()> {
     println!(rt; "any order, S = 256: example 10's keys, 257 second")?;
-    let mut run = Run::fresh(words, deltas);
+    run.clear();
     run.inserts(rt, &[(1, 1), (257, 3)])?;
     run.fill(128);
     run.show_live(rt)
 }
 
-// Tables of 8 cells.
 fn small(rt: &impl Print) -> io::Result<()> {
-    let mut words = [0; 24];
-    let mut deltas = [0; 16];
-    one_and_two(rt, &mut words, &mut deltas)?;
-    three_and_four(rt, &mut words, &mut deltas)?;
-    five(rt, &mut words, &mut deltas)?;
-    six_and_seven(rt, &mut words, &mut deltas)?;
-    any_order(rt, &mut words, &mut deltas)
+    let mut run = Small::new();
+    one_and_two(rt, &mut run)?;
+    three_and_four(rt, &mut run)?;
+    five(rt, &mut run)?;
+    six_and_seven(rt, &mut run)?;
+    any_order(rt, &mut run)
 }
 
-// Tables of 256 cells.
 fn large(rt: &impl Print) -> io::Result<()> {
-    let mut words = [0; 768];
-    let mut deltas = [0; 512];
+    let mut run = Large::new();
     println!(rt; "example 9")?;
-    crowded(rt, &mut words, &mut deltas, 127)?;
+    crowded(rt, &mut run, 127)?;
     println!(rt; "example 10")?;
-    crowded(rt, &mut words, &mut deltas, 128)?;
-    early(rt, &mut words, &mut deltas)
+    crowded(rt, &mut run, 128)?;
+    early(rt, &mut run)
 }
 
 fn main(rt: HostRuntime) -> io::Result<()> {
