@@ -1,32 +1,24 @@
 // Making an entry, and its key.
 ghost use Rattle.std.specs.Prelude.{◌≡◌};
 ghost use Rattle.rules.specs.Entries.{make_in, entry_of};
-ghost use Rattle.cells.specs.Layout.{null, view, value_in, lent, Shaped};
+ghost use Rattle.cells.specs.Layout.{null, view, value_in, lent};
 ghost use Rattle.hashentry.specs.Answers.{making};
 
 use cells::slices::value_at;
-use cells::walk::{Stop, walk_to};
+use cells::walk::{Stop, View};
 use cells::{Table, cell_of, size_of};
 use entries::record::{CellAt, Entry, Place};
 use hashers::hash_of;
 use hashmap::LookupError;
 
 // Behind the checks of entry.
-#[tactic(auto, using(cells::proofs::Shapes::in_words))]
-fn entry_in(
-    words: &[u64],
-    deltas: &[u8],
-    size: usize,
-    hash: u64,
-    key: u64,
-) -> Result<Entry, LookupError>
-    requires { Shaped size words.now deltas.now }
-    ensures { making result ≡ make_in size null (view words.now deltas.now) (value_in words.now) hash key }
+fn entry_in(table: &View<'_>, hash: u64, key: u64) -> Result<Entry, LookupError>
+    ensures { making result ≡ make_in table.now.size null (view table.now.words.now table.now.deltas.now) (value_in table.now.words.now) hash key }
 {
-    let place = match walk_to(words, deltas, size, hash, key).stop {
+    let place = match table.walk_to(hash, key).stop {
         Stop::Met(at) => {
-            let index = cell_of(at, size);
-            if value_at(words, index) == Table::NULL {
+            let index = cell_of(at, table.size);
+            if value_at(table.words, index) == Table::NULL {
                 Place::Vacant
             } else {
                 Place::Occupied(CellAt { index })
@@ -47,7 +39,12 @@ pub fn entry(words: &[u64], deltas: &[u8], table: Table, key: u64) -> Result<Ent
     if hash == 0 {
         return Err(LookupError::ZeroHash);
     }
-    entry_in(words, deltas, size, hash, key)
+    let view = View {
+        words,
+        deltas,
+        size,
+    };
+    entry_in(&view, hash, key)
 }
 
 // The key of an entry, of either case.

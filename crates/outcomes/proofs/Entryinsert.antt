@@ -1,5 +1,4 @@
 -- One outcome for each call of entryinsert. Assumes nothing.
-use Rattle.std.specs.Prelude.{Result, Ok, Err}
 use mathlib.Core.List.{List, [], ◌∷◌}
 use mathlib.Core.Path.{◌≡◌, refl, ap}
 use Prim.Native.Nat.{ℕ, zero, suc}

@@ -16,8 +16,8 @@ returns-in_err-size c =
 pub returns-then-hash-eq0 : goal.returns-then-hash-eq0
 returns-then-hash-eq0 c = make_zero _ _ _ c.hash_of-hash.ensures (shape_passes (lent c.args.words.now c.args.deltas.now c.args.table) (sized _ _ (sym c.in_ok-size.ensures.ok_part ∙ c.size_of.ensures)).0) c.if-hash-eq0.true
 
-pub entry_in-requires : goal.entry_in-requires
-entry_in-requires c = (sized_shape _ _ _ (sym c.in_ok-size.ensures.ok_part ∙ c.size_of.ensures)).0
+pub invariant_of-view : goal.invariant_of-view
+invariant_of-view c = record { shaped = (sized_shape _ _ _ (sym c.in_ok-size.ensures.ok_part ∙ c.size_of.ensures)).0 }
 
 pub returns : goal.returns
 returns c =
