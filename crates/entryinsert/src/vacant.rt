@@ -1,6 +1,5 @@
 // Internal: the insert of a Vacant entry.
-ghost use Rattle.std.specs.Prelude.{true, ◌≡◌, ◌*◌, ◌≤◌, [], length};
-ghost use Rattle.rules.specs.Sizes.{is_size};
+ghost use Rattle.std.specs.Prelude.{◌≡◌, []};
 ghost use Rattle.rules.specs.Walk.{walk};
 ghost use Rattle.rules.specs.Answers.{refused};
 ghost use Rattle.rules.specs.Calls.{find_at, insert_stored};
@@ -90,12 +89,11 @@ impl From<WalkError> for EntryInsertError {
 
 // Whether a walk that stopped so finds a value.
 #[tactic(auto, using(cells::proofs::Shapes::cell_lt))]
-fn is_found(words: &[u64], size: usize, stop: Stop) -> bool
-    requires { (is_size size ≡ true) × (3 * size ≤ length words.now) }
-    ensures { result ≡ is_found (find_at size null (value_in words.now) (stop_of stop)) }
+fn is_found(table: &View<'_>, stop: Stop) -> bool
+    ensures { result ≡ is_found (find_at table.now.size null (value_in table.now.words.now) (stop_of stop)) }
 {
     match stop {
-        Stop::Met(at) => value_at(words, cell_of(at, size)) != Table::NULL,
+        Stop::Met(at) => value_at(table.words, cell_of(at, table.size)) != Table::NULL,
         Stop::Tail(_) | Stop::Broken => false,
     }
 }
@@ -139,7 +137,7 @@ pub fn put(
         size,
     };
     let walked = view.walk_to(entry.hash, entry.key);
-    if is_found(words, size, walked.stop) {
+    if is_found(&view, walked.stop) {
         return Err(EntryInsertError::Stale);
     }
     let cell = Cell {

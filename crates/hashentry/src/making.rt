@@ -12,6 +12,7 @@ use hashers::hash_of;
 use hashmap::LookupError;
 
 // Behind the checks of entry.
+#[tactic(auto, using(cells::proofs::Shapes::in_words))]
 fn entry_in(table: &View<'_>, hash: u64, key: u64) -> Result<Entry, LookupError>
     ensures { making result ≡ make_in table.now.size null (view table.now.words.now table.now.deltas.now) (value_in table.now.words.now) hash key }
 {

@@ -1,12 +1,8 @@
 -- `hashentry::making::entry_in` meets its contract. Assumes nothing.
 use mathlib.Core.Path.{ap}
 use Rattle.cells.specs.Workers.{stop_of}
-use Rattle.cells.proofs.Shapes.{in_words}
 use Rattle.hashentry.proofs.Made.{make_ends, make_removed, make_live}
 use Rattle.hashentry.proofs.making.entry_in.Goals as goal
-
-pub value_at-requires : goal.value_at-requires
-value_at-requires c = in_words c.args.table.now.shaped _ c.cell_of-index.ensures
 
 pub returns-then-value_at : goal.returns-then-value_at
 returns-then-value_at c = make_removed _ _ _ _ _ _ c.walk_to.ensures _ _ _ (ap stop_of c.in-Met.is) c.cell_of-index.ensures c.value_at.ensures c.if-value_at.true
