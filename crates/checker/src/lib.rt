@@ -2,10 +2,8 @@
 // cell by the cell's own hash and key, so it needs no memory of its own.
 #![tactic(auto)]
 
-ghost use Rattle.std.specs.Prelude.{◌≡◌, ◌+◌, ◌-◌, ◌*◌, ◌<◌, true, length, slice_index};
-ghost use Rattle.rules.specs.Sizes.{is_size};
-ghost use Rattle.rules.specs.Sound.{one};
-ghost use Rattle.cells.specs.Layout.{first_at, second_at, null, hash_in, value_in, live_in, view, params_of, counts_of, lent};
+ghost use Rattle.std.specs.Prelude.{◌≡◌, ◌-◌, ◌<◌, slice_index};
+ghost use Rattle.cells.specs.Layout.{first_at, second_at, null, hash_in, value_in, view, params_of, counts_of, lent};
 ghost use Rattle.checker.specs.Check.{of_home_test, chain_test, met_test, empty_test, home_test, taken_test, cell_test, sound_test, check_said, check_rule};
 
 use cells::slices::{first_delta, hash_at, is_live, key_at, second_delta, value_at};

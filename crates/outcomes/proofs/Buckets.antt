@@ -16,7 +16,7 @@ use Rattle.outcomes.proofs.One.{both, one}
 abbrev answer : {A : Type 0} → Said → A → Result A ShapeError
 answer done a = Ok a
 answer (says.cell c) a = Ok a
-answer (refused n) a = Err (record { })
+answer (refused n) a = Err (record {})
 
 abbrev untaken : Handed → Result Bucket ShapeError
 untaken h = answer h.said h.bucket
@@ -51,9 +51,9 @@ put_bucket_one_outcome words deltas b bucket r₁ r₂ words₁ deltas₁ words�
 -- ---- reading a cell
 
 abbrev cell_unsaid : Said → Result Cell ShapeError
-cell_unsaid done = Err (record { })
+cell_unsaid done = Err (record {})
 cell_unsaid (says.cell c) = Ok c
-cell_unsaid (refused n) = Err (record { })
+cell_unsaid (refused n) = Err (record {})
 
 cell_back : (r : Result Cell ShapeError) → cell_unsaid (cell_said r) ≡ r
 cell_back (Ok c) = refl
