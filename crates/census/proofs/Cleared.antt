@@ -2,6 +2,7 @@
 use mathlib.Core.Bool.{Bool, true, false, ◌&&◌}
 use mathlib.Core.List.{List}
 use mathlib.Core.Path.{◌≡◌, refl, sym, ap, subst}
+use Rattle.std.proofs.lemmas.Bool.{and_parts}
 use Prim.Native.Nat.{ℕ, ◌*◌, ◌/◌, ◌≤◌}
 use native.Mathlib.Omega.{arith}
 use borrow.Author.Tests.{le-leb}
@@ -18,7 +19,7 @@ use Rattle.hashmap.specs.Answers.{Cleared, clear_rule}
 use Rattle.hashmap.proofs.Cleared.{clears, keeps}
 use Rattle.parts.specs.Halves.{are_halves, size_fits}
 use Rattle.halves.specs.Answers.{four, cleared, refuses, HalvesCleared, fresh_growing, clear_halves_rule}
-use Rattle.parts.proofs.Checks.{both, halves_hold, size_holds}
+use Rattle.parts.proofs.Checks.{halves_hold, size_holds}
 use Rattle.order.specs.Runs.{Memory}
 use Rattle.census.specs.Steps.{Step}
 use Rattle.census.specs.Stores.{TwoHalves, alone, halved, table_in, memory_cleared, two_cleared}
@@ -85,7 +86,7 @@ module _ (h : TwoHalves) (size : ℕ) (hasher : Hasher) (s : SoundTable (table_i
     where
       go : (b : Bool) → are_halves lw ld uw ud && size_fits (size_in ld) size ≡ b → ClearsHalves (clear_halves_rule lw ld uw ud size hasher)
       go true e =
-          let a = both _ _ e in
+          let a = and_parts _ _ e in
           subst ClearsHalves (made e)
           (wipe_step (table_in (halved h)) (table_in (fresh_halved (size_in ld) size hasher))
           (halved_fresh (size_in ld) size hasher (halves_hold lw ld uw ud a.0).size (size_holds (size_in ld) size a.1).1))

@@ -23,11 +23,6 @@ use Rattle.growth.proofs.Turns.{round_at, rounds_from, TurnWay, answers, untried
 use Rattle.growth.proofs.Still.{Moves, ends}
 use Rattle.growth.proofs.Going.{moved_on, Going, Final, final_lower, final_upper, MovedTo, moved_to}
 
--- the size that a round moved to
-abbrev size_of : TurnEnd → ℕ
-size_of (turns.moved T) = T
-size_of (turns.answered s) = 0
-
 module _ (cells : ℕ) (hasher : Hasher) (h k v live : ℕ) (whole : GrowOutcome) (lws₀ lds₀ uws₀ uds₀ : List ℕ) where
   abbrev GoingAt : rule.Half → (size count : ℕ) → (lws lds uws uds : List ℕ) → Type 0
   GoingAt half size count lws lds uws uds = Going cells hasher h k v live whole lws₀ lds₀ uws₀ uds₀ half size count lws lds uws uds
@@ -92,12 +87,12 @@ module _ (cells : ℕ) (hasher : Hasher) (h k v live : ℕ) (whole : GrowOutcome
         → Enough cells null (hash_of hasher) (round_at size half live ws ds used spare) (suc n)
         → (x : TurnedOn) → TurnWay cells hasher h k v size live ws ds sws sds n (round_at size half live ws ds used spare) x (rounds_from cells hasher h k v (suc n) (round_at size half live ws ds used spare))
         → (T : ℕ) → x.end ≡ turns.moved T → MovedTo cells hasher h k v size live ws ds n half used spare x T
-    moved_way ws ds sws sds n half used spare q e x (answers f a b) T y = let z : ◌≡◌ {A = ℕ} 0 1 = cc in absurd (omega arith)
-    moved_way ws ds sws sds n half used spare q e x (untried a b) T y = let z : ◌≡◌ {A = ℕ} 0 1 = cc in absurd (omega arith)
-    moved_way ws ds sws sds n half used spare q e x (all_full a b) T y = let z : ◌≡◌ {A = ℕ} 0 1 = cc in absurd (omega arith)
-    moved_way ws ds sws sds n half used spare q e x (breaks a b) T y = let z : ◌≡◌ {A = ℕ} 0 1 = cc in absurd (omega arith)
+    moved_way ws ds sws sds n half used spare q e x (answers f a b) T y = cc
+    moved_way ws ds sws sds n half used spare q e x (untried a b) T y = cc
+    moved_way ws ds sws sds n half used spare q e x (all_full a b) T y = cc
+    moved_way ws ds sws sds n half used spare q e x (breaks a b) T y = cc
     moved_way ws ds sws sds n half used spare q e x (moves f T' c fills m a b) T y =
-        let t : T' ≡ T = ap size_of (sym (ap (λ (x : TurnedOn). x.end) a) ∙ y) in
+        let t : T' ≡ T = cc in
         subst (MovedTo cells hasher h k v size live ws ds n half used spare x) t (moved_to cells hasher h k v size live ws ds sws sds n half used spare q e T' c fills f m x a b)
 
     -- a round that moves is followed by another, with the halves in each other's place

@@ -34,7 +34,7 @@ module _ (cells : ℕ) (m : Moved) (ws ds w d : List ℕ) where
       go : (x : Ended) → m.ended ≡ x → record { ended = all c; words = w; deltas = d } ≡ into_by cells (move_end m x) ws ds
           → (m.ended ≡ all c) × (w ≡ words_after_all m.fills (fresh_words cells)) × (d ≡ deltas_after_all m.fills (fresh_deltas cells))
       go (all b) q e = (q ∙ sym (ap (λ (i : Into). i.ended) e), ap (λ (i : Into). i.words) e, ap (λ (i : Into). i.deltas) e)
-      go (stop n l) q e = let f = ap (λ (i : Into). i.ended) e in let z : ◌≡◌ {A = ℕ} 0 1 = cc in absurd (omega arith)
+      go (stop n l) q e = let f = ap (λ (i : Into). i.ended) e in cc
 
   pub into_stop : (n : ℕ) (l : List ℕ) → record { ended = stop n l; words = w; deltas = d } ≡ into_by cells (move_end m m.ended) ws ds
       → (m.ended ≡ stop n l) × (w ≡ fresh_words cells) × (d ≡ fresh_deltas cells)
@@ -42,7 +42,7 @@ module _ (cells : ℕ) (m : Moved) (ws ds w d : List ℕ) where
     where
       go : (x : Ended) → m.ended ≡ x → record { ended = stop n l; words = w; deltas = d } ≡ into_by cells (move_end m x) ws ds
           → (m.ended ≡ stop n l) × (w ≡ fresh_words cells) × (d ≡ fresh_deltas cells)
-      go (all b) q e = let f = ap (λ (i : Into). i.ended) e in let z : ◌≡◌ {A = ℕ} 0 1 = cc in absurd (omega arith)
+      go (all b) q e = let f = ap (λ (i : Into). i.ended) e in cc
       go (stop n' l') q e = (q ∙ sym (ap (λ (i : Into). i.ended) e), ap (λ (i : Into). i.words) e, ap (λ (i : Into). i.deltas) e)
 
 module _ (cells S : ℕ) (from : Held) (c : Counts) where
@@ -81,9 +81,6 @@ power_twice n p =
 
 pub power_least : (n : ℕ) → Power n → 2 ^ least_log ≤ n
 power_least n p = let q : 2 ^ least_log ≤ 2 ^ p.log = pow_mono {i = least_log} {j = p.log} p.least in omega (arith, p.is)
-
-pub grows : (n : ℕ) → Power n → n < 2 * n
-grows n p = omega (arith, power_least n p)
 
 -- a power of two that is at most an allowed size is an allowed size
 pub fits : (cells n : ℕ) → is_size cells ≡ true → Power n → n ≤ cells → is_size n ≡ true

@@ -192,31 +192,29 @@ fn one_round(
     }
 }
 
-// A round with the halves in their roles.
+// A round with the halves in their roles. The four slices go one by one, as in the call, so that a clause says what becomes of each.
 fn turn(
-    half: Half,
     lower_words: &mut [u64],
     lower_deltas: &mut [u8],
     upper_words: &mut [u64],
     upper_deltas: &mut [u8],
     cells: usize,
-    size: usize,
-    live: usize,
+    growing: Growing,
     cell: Cell,
 ) -> Turned
-    requires { Sides (half_of half) lower_words.old lower_deltas.old upper_words.old upper_deltas.old cells size }
-    ensures { (hasher : Hash) → turned_by result lower_words.new lower_deltas.new upper_words.new upper_deltas.new ≡ turn_sides (half_of half) cells hasher size live cell.hash cell.key cell.value lower_words.old lower_deltas.old upper_words.old upper_deltas.old }
+    requires { Sides (half_of growing.half) lower_words.old lower_deltas.old upper_words.old upper_deltas.old cells growing.size }
+    ensures { (hasher : Hash) → turned_by result lower_words.new lower_deltas.new upper_words.new upper_deltas.new ≡ turn_sides (half_of growing.half) cells hasher growing.size growing.table.live cell.hash cell.key cell.value lower_words.old lower_deltas.old upper_words.old upper_deltas.old }
 {
-    // An arm for each half: the slices that are written are lent by name.
-    match half {
+    // An arm for each half: a choice between `&mut` slices gets no proof.
+    match growing.half {
         Half::Lower => one_round(
             lower_words,
             lower_deltas,
             upper_words,
             upper_deltas,
             cells,
-            size,
-            live,
+            growing.size,
+            growing.table.live,
             cell,
         ),
         Half::Upper => one_round(
@@ -225,8 +223,8 @@ fn turn(
             lower_words,
             lower_deltas,
             cells,
-            size,
-            live,
+            growing.size,
+            growing.table.live,
             cell,
         ),
     }
@@ -254,38 +252,31 @@ fn grow_in(
     requires { Sides (half_of growing.half) lower_words.old lower_deltas.old upper_words.old upper_deltas.old cells growing.size }
     ensures { (hasher : Hash) → grown_by result lower_words.new lower_deltas.new upper_words.new upper_deltas.new ≡ record { grown = grew_from cells (rounds_on cells hasher growing.size (half_of growing.half) growing.table.live cell.hash cell.key cell.value lower_words.old lower_deltas.old upper_words.old upper_deltas.old) lower_words.old lower_deltas.old upper_words.old upper_deltas.old; hasher = growing.table.hasher } }
 {
-    let table = growing.table;
-    let mut size = growing.size;
-    let mut half = growing.half;
+    let mut growing = growing;
     let mut moves = 0;
     loop {
         let turned = turn(
-            half,
             lower_words,
             lower_deltas,
             upper_words,
             upper_deltas,
             cells,
-            size,
-            table.live,
+            growing,
             cell,
         );
         match turned.end {
             RoundEnd::Answered(said) => {
-                let table = Table {
-                    hasher: table.hasher,
-                    live: turned.live,
-                };
+                growing.table.live = turned.live;
                 return GrowAnswer {
                     said,
                     looked: turned.looked,
                     moves,
-                    growing: Growing { table, size, half },
+                    growing,
                 };
             }
             RoundEnd::Moved(to) => {
-                size = to;
-                half = other(half);
+                growing.size = to;
+                growing.half = other(growing.half);
                 moves += 1;
             }
         }

@@ -3,6 +3,7 @@
 use mathlib.Core.Bool.{true, ◌&&◌}
 use mathlib.Core.List.{List}
 use mathlib.Core.Path.{◌≡◌, refl, sym, ap, ◌∙◌}
+use Rattle.std.proofs.lemmas.Bool.{and_parts}
 use Prim.Native.Nat.{ℕ, ◌*◌, ◌/◌}
 use native.Mathlib.Omega.{arith}
 use lib.ListN.{length, take, drop}
@@ -17,7 +18,7 @@ use Rattle.cells.proofs.Views.{Within}
 use Rattle.parts.specs.Halves.{half_of, of_half, are_pair, are_halves, record_fits, lent_halves, used_words, used_deltas}
 use Rattle.halves.specs.Answers.{in_lower, in_upper, halves_by, remove_rule}
 use Rattle.parts.specs.declared.Growing.{Growing}
-use Rattle.parts.proofs.Checks.{both, passed}
+use Rattle.parts.proofs.Checks.{passed}
 use Rattle.halves.proofs.Fronts.{used_shaped, part_shaped, part_size, part_words, rest_words, part_deltas, rest_deltas, front_find, front_remove, front_insert}
 use Rattle.parts.proofs.Cutting.{part_at}
 
@@ -34,15 +35,15 @@ module _ (lw ld uw ud : List ℕ) (g : Growing) (e : are_halves lw ld uw ud && r
   words_pass : are_pair 3 (length lw / 3) (length lw) (length uw) && record_fits (length lw / 3) g ≡ true
   unfolding are_halves
   words_pass =
-      let a = both (are_halves lw ld uw ud) _ e in
-      let b = both (are_pair 3 (size_in ld) (length lw) (length uw)) _ a.0 in
+      let a = and_parts (are_halves lw ld uw ud) _ e in
+      let b = and_parts (are_pair 3 (size_in ld) (length lw) (length uw)) _ a.0 in
       rw (words_tell, b.0, a.1)
 
   deltas_pass : are_pair 2 (size_in ld) (length ld) (length ud) && record_fits (size_in ld) g ≡ true
   unfolding are_halves
   deltas_pass =
-      let a = both (are_halves lw ld uw ud) _ e in
-      let b = both (are_pair 3 (size_in ld) (length lw) (length uw)) _ a.0 in
+      let a = and_parts (are_halves lw ld uw ud) _ e in
+      let b = and_parts (are_pair 3 (size_in ld) (length lw) (length uw)) _ a.0 in
       rw (b.1, a.1)
 
   -- exactly the first 3S words, and the first 2S deltas

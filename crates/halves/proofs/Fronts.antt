@@ -2,6 +2,7 @@
 use mathlib.Core.Bool.{true, cond, ◌&&◌}
 use mathlib.Core.List.{List, ◌++◌}
 use mathlib.Core.Path.{◌≡◌, refl, sym, ap, subst, ◌∙◌}
+use Rattle.std.proofs.lemmas.Bool.{and_parts}
 use Prim.Native.Nat.{ℕ, ◌+◌, ◌*◌, ◌/◌, ◌≤◌}
 use native.Mathlib.Omega.{arith}
 use borrow.Author.Tests.{eq-eqb, le-leb}
@@ -22,7 +23,7 @@ use Rattle.parts.specs.Halves.{half_of, of_half, are_halves, record_fits, lent_h
 use Rattle.parts.specs.declared.Half.{Half}
 use Rattle.parts.specs.declared.Growing.{Growing}
 use Rattle.halves.proofs.Alike.{Alike, find_same, remove_same, insert_same}
-use Rattle.parts.proofs.Checks.{both, passed, half_shaped}
+use Rattle.parts.proofs.Checks.{passed, half_shaped}
 
 -- a table of S cells, past the test of its shape
 abbrev pub table_of : ℕ → List ℕ → List ℕ → Table → Lent
@@ -157,7 +158,7 @@ module _ (lw ld uw ud : List ℕ) (g : Growing) (e : are_halves lw ld uw ud && r
   pub in_use_is : in_use (lent_halves lw ld uw ud g) ≡ table_of g.size (of_half (half_of g.half) lw uw) (of_half (half_of g.half) ld ud) g.table
   in_use_is =
       let p = passed lw ld uw ud g e in
-      let b : are_halves lw ld uw ud && is_size g.size && leb g.size (size_in ld) ≡ true = rw ((both (are_halves lw ld uw ud) _ e).0, p.1.size, le-leb g.size (size_in ld) p.1.most) in
+      let b : are_halves lw ld uw ud && is_size g.size && leb g.size (size_in ld) ≡ true = rw ((and_parts (are_halves lw ld uw ud) _ e).0, p.1.size, le-leb g.size (size_in ld) p.1.most) in
       λ i. record {
         shaped = b i;
         params = params_of g.size g.table.hasher;

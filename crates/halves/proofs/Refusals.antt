@@ -3,7 +3,6 @@ use mathlib.Core.Bool.{Bool, true, false, cond, ◌&&◌}
 use mathlib.Core.List.{List}
 use mathlib.Core.Path.{◌≡◌, refl}
 use Prim.Native.Nat.{ℕ}
-use native.Mathlib.Omega.{arith}
 use Rattle.hashers.specs.declared.Hasher.{Hasher}
 use Rattle.rules.specs.Growing as rule
 use Rattle.rules.specs.Growing.{lower, upper, in_use, other_half}
@@ -57,5 +56,5 @@ module _ (lw ld uw ud : List ℕ) where
       go : (b : Bool) (x : Growing) (f : Four)
           → (cond {A = HalvesCleared} b (record { said = cleared x; left = f }) (record { said = refuses 1; left = four lw ld uw ud })).said ≡ refuses n
           → (cond {A = HalvesCleared} b (record { said = cleared x; left = f }) (record { said = refuses 1; left = four lw ld uw ud })).left ≡ four lw ld uw ud
-      go true x f e = let z : ◌≡◌ {A = ℕ} 0 1 = cc in absurd (omega arith)
+      go true x f e = cc
       go false x f e = refl

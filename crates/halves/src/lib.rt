@@ -71,10 +71,8 @@ pub fn find(
         upper_deltas,
         growing,
     ) {
-        return FindAnswer {
-            said: Err(LookupError::Shape),
-            looked: 0,
-        };
+        let said = Err(LookupError::Shape);
+        return FindAnswer { said, looked: 0 };
     }
     let words = of_half(growing.half, lower_words, upper_words);
     let deltas = of_half(growing.half, lower_deltas, upper_deltas);
@@ -139,6 +137,7 @@ pub fn remove(
     }
     let table = growing.table;
     let size = growing.size;
+    // An arm for each half: a choice between `&mut` slices gets no proof.
     match growing.half {
         Half::Lower => {
             let done = remove_front(lower_words, lower_deltas, size, table, key);

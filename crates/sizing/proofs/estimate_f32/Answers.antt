@@ -5,9 +5,6 @@ use Rattle.steps.proofs.Sizes.{size_greatest}
 use Rattle.sizing.proofs.Twin.{cast_fits, coded_is, estimate_above, estimate_under}
 use Rattle.sizing.proofs.estimate_f32.Goals as goal
 
-pub int_to_float-ratio : goal.int_to_float-ratio
-int_to_float-ratio c = cast_fits _ (omega (arith, c.requires.1))
-
 pub int_to_float-in_use : goal.int_to_float-in_use
 int_to_float-in_use c = cast_fits _ (omega (arith, size_greatest _ c.requires.0))
 
