@@ -96,6 +96,7 @@ fn put_cells(words: &mut [u64], b: usize, bucket: Bucket)
     requires { 12 * b + 11 < length words.old }
     ensures { words.new ≡ words_with words.old b bucket }
 {
+    // By index: a place in the words goes with a place in the bucket.
     for j in 0..4 {
         slices::fill_cell(words, 4 * b + j, bucket.cells[j]);
     }

@@ -1,4 +1,5 @@
-// Insert by a stored hash, below the checks of hash and value.
+// Insert by a stored hash, below the checks of hash and value. The slices come one by one with the size: a struct that held them to be
+// written would owe in each clause that it keeps its references.
 ghost use Rattle.std.specs.Prelude.{◌≡◌, ℕ, ◌+◌, ◌*◌, ◌%◌, ◌<◌, ◌≤◌, true, ◌≢◌, List, length};
 ghost use Rattle.rules.specs.Sizes.{is_size};
 ghost use Rattle.rules.specs.Walk.{walk};

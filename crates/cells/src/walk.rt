@@ -9,7 +9,7 @@ use crate::cell_of;
 use crate::slices::{first_delta, hash_at, holds_at, second_delta};
 use std::num::wrapping_add_u64;
 
-// Where a walk stops, by position.
+// Where a walk stops, by position. Of its three ends none is a failure to every caller, so it has no shape of a Result.
 #[derive(Clone, Copy)]
 pub enum Stop {
     Met(u64),
@@ -50,6 +50,7 @@ impl View<'_> {
         let mut at = hash;
         let mut looked: usize = 1;
         let mut delta = first_delta(deltas, home);
+        // By links, as the rule says it: a delta of 0 ends them, and looked is a part of the answer.
         while delta != 0 {
             if looked == size {
                 return Walked {

@@ -17,6 +17,8 @@ pub use giving::EntryInsertAnswer;
 use giving::{Doing, give};
 pub use vacant::{EntryInsertError, EntryInsertSaid};
 
+// Three names for give, each with its rule: a user calls by what is to be done with an Occupied entry.
+
 // Inserts a value under the key of a Vacant entry, at fixed size. Refusals: 1, 3, 2, 7, then 4 or 5 from the insert's walk.
 pub fn insert(
     words: &mut [u64],

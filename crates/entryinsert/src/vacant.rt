@@ -1,4 +1,4 @@
-// Internal: the insert of a Vacant entry.
+// Internal: the insert of a Vacant entry. What writes takes its slices one by one, as cells::insert.
 ghost use Rattle.std.specs.Prelude.{◌≡◌, []};
 ghost use Rattle.rules.specs.Walk.{walk};
 ghost use Rattle.rules.specs.Answers.{refused};

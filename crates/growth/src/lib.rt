@@ -78,6 +78,7 @@ fn try_from(
     ensures { (ds ow od : List ℕ) → tried_by result words.new deltas.new ≡ tried_on cells (tries cells null size (held_in from.now ds) (counts_of live) (clear_held cells) sizes first (cleared [])) ow od }
 {
     let mut to = first;
+    // By sizes that double: no range has that step.
     while to <= cells {
         match move_into(from, size, live, words, deltas, cells, to) {
             Ok(_) => return Ok(to),
@@ -254,6 +255,7 @@ fn grow_in(
 {
     let mut growing = growing;
     let mut moves = 0;
+    // No count ends it: the sizes do.
     loop {
         let turned = turn(
             lower_words,

@@ -1,5 +1,5 @@
 // The two halves: a growing table lies in the front of one of two lent halves of C cells each, and its record says where.
-// Every call is defined for any slices and any record.
+// Every call is defined for any slices and any record, so the four slices come one by one, as the calls of hashmap take theirs.
 #![tactic(auto)]
 
 ghost use Rattle.std.specs.Prelude.{◌≡◌, ◌*◌, take};

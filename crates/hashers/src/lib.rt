@@ -17,7 +17,7 @@ pub use simple::SimpleHasher;
 #[derive(Clone, Copy)]
 pub struct Unwritten<H>(pub H);
 
-// Which hasher a table uses.
+// Which hasher a table uses. An enum and no closure: a record by value holds it.
 #[derive(Clone, Copy)]
 pub enum Hasher {
     Simple,
@@ -36,7 +36,7 @@ pub fn hash_of(hasher: Hasher, key: u64) -> u64
     }
 }
 
-// The hash of bytes from the starting state, as C is given it (hashers_c); 0 where 8 would be given.
+// The hash of bytes from the starting state, as C is given it (hashers_c); 0 where 8 would be given. C calls each by its own name.
 pub fn leapfrog_hash_simple(bytes: &[u8]) -> u64
     ensures { result ≡ simple_c bytes.now }
 {

@@ -4,6 +4,7 @@ ghost use Rattle.hashers.specs.Writes.{simple_said, simple_write, simple_start};
 
 use crate::Unwritten;
 
+// A type beside Murmur's, as document 01 lists the hashers: a trait for the two would be longer than their bodies, which differ in fmix.
 #[derive(Clone, Copy)]
 pub struct SimpleHasher(pub u64);
 

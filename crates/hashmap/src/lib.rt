@@ -1,4 +1,5 @@
-// The table of fixed size: two lent slices and a record by value. Every call is defined for any slices and any record.
+// The table of fixed size: two lent slices and a record by value. Every call is defined for any slices and any record: a value that
+// held all three would have nothing that is always true of it.
 #![tactic(auto)]
 
 ghost use Rattle.std.specs.Prelude.{◌≡◌};

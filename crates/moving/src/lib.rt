@@ -1,4 +1,5 @@
-// Internal: the live cells of a table go over into a cleared one. A plain move and a growing table call this.
+// Internal: the live cells of a table go over into a cleared one. A plain move and a growing table call this. Slices come one by one, as
+// in cells::insert.
 #![tactic(auto)]
 
 ghost use Rattle.std.specs.Prelude.{true, List, ◌≡◌, ℕ, ◌+◌, ◌*◌, ◌<◌, ◌≤◌, length};
