@@ -1,5 +1,6 @@
 // One bucket of a table, eight deltas and four cells, as a value: taken out, read or changed in one cell, put back.
-// These calls test the lengths of the slices and the index alone: they see no record of the table, and leave it.
+// These calls test the lengths of the slices and the index alone, which come one by one as in hashmap: they see no record of the table,
+// and leave it.
 #![tactic(auto)]
 
 ghost use Rattle.std.specs.Prelude.{◌≡◌, ◌+◌, ◌*◌, ◌<◌, length};

@@ -99,7 +99,8 @@ pub fn size_of(words: &[u64], deltas: &[u8], live: usize) -> Option<usize>
     (is_shaped(words, deltas) && live <= size).then_some(size)
 }
 
-// The cell of a position.
+// The cell of a position. A size comes as a number with its fact: calls read it off a length, and a type round it would be taken off at each
+// use.
 pub fn cell_of(at: u64, size: usize) -> usize
     requires { is_size size ≡ true }
     ensures { result ≡ at % size }

@@ -37,7 +37,7 @@ pub enum LookError {
     Stale,
 }
 
-// Checks 2 and 7 of an action of Occupied entries, behind check 1.
+// Checks 2 and 7 of an action of Occupied entries, behind check 1. By the words alone: their caller may write them next.
 pub fn look(
     words: &[u64],
     size: usize,

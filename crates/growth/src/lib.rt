@@ -1,4 +1,5 @@
-// The insert that grows: after Full the table moves into the other half, at the sizes that document 01 names.
+// The insert that grows: after Full the table moves into the other half, at the sizes that document 01 names. The four slices come one by
+// one: their roles change with the half in use, and what is written is lent by name.
 #![tactic(auto)]
 
 ghost use Rattle.std.specs.Prelude.{List, [], ◌≡◌, ℕ, Ok, Err};

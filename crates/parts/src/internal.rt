@@ -1,4 +1,4 @@
-// Internal: check 1 of a growing table. Nothing here is a public call.
+// Internal: check 1 of a growing table. Nothing here is a public call. The lengths come one by one: they are what is checked.
 ghost use Rattle.std.specs.Prelude.{◌&&◌, ◌≡◌, ◌/◌, ◌≤◌};
 ghost use Rattle.cells.specs.Layout.{size_in};
 ghost use Rattle.parts.specs.Halves.{half_of, of_half, are_pair, are_halves, size_fits, record_fits};
