@@ -4,6 +4,7 @@ use Rattle.cells.specs.Layout.{null, hash_in, key_in, value_in, filled, size_in,
 use Rattle.cells.specs.declared.Cell.{Cell}
 use Rattle.cells.specs.declared.ShapeError.{ShapeError}
 use Rattle.buckets.specs.declared.Bucket.{Bucket}
+use Rattle.buckets.specs.declared.Unchanged.{Unchanged}
 
 -- f 0 to f (n - 1)
 abbrev pub listed : {A : Type 0} → ℕ → (ℕ → A) → List A
@@ -76,10 +77,10 @@ abbrev pub taken : Result Bucket ShapeError → Handed
 taken (Ok k) = record { said = done; bucket = k }
 taken (Err e) = record { said = refused 1; bucket = empty_bucket }
 
--- and of a bucket k that was to be changed: the changed one, or under a refusal k
-abbrev pub changed : Bucket → Result Bucket ShapeError → Handed
-changed k (Ok n) = record { said = done; bucket = n }
-changed k (Err e) = record { said = refused 1; bucket = k }
+-- and of a bucket that was to be changed: the changed one, or under a refusal the one that it was
+abbrev pub changed : Result Bucket Unchanged → Handed
+changed (Ok k) = record { said = done; bucket = k }
+changed (Err e) = record { said = refused 1; bucket = e.0 }
 
 -- a call that writes both slices
 pub record Left : Type 0 where

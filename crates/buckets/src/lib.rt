@@ -16,6 +16,10 @@ pub struct Bucket {
     pub cells: [Cell; 4],
 }
 
+// A change that was refused under 1, with the bucket as it was.
+#[derive(Clone, Copy)]
+pub struct Unchanged(pub Bucket);
+
 impl Bucket {
     // A bucket of four empty cells, for where a caller needs one before it has taken any.
     pub const EMPTY: Bucket = Bucket {
@@ -31,17 +35,17 @@ impl Bucket {
         self.cells.get(j).copied().ok_or(ShapeError)
     }
 
-    // The bucket with this cell as cell j. Refusal: 1, j is not below 4.
+    // The bucket with this cell as cell j. Refusal: 1, j is not below 4; with the bucket as it was.
     #[tactic(auto, unfolding(crate::specs::Buckets::changing))]
-    pub fn with_cell(self, j: usize, cell: Cell) -> Result<Bucket, ShapeError>
-        ensures { changed self result ≡ changing self j cell }
+    pub fn with_cell(self, j: usize, cell: Cell) -> Result<Bucket, Unchanged>
+        ensures { changed result ≡ changing self j cell }
     {
         if j < 4 {
             let mut bucket = self;
             bucket.cells[j] = cell;
             Ok(bucket)
         } else {
-            Err(ShapeError)
+            Err(Unchanged(self))
         }
     }
 }
@@ -97,9 +101,8 @@ fn put_cells(words: &mut [u64], b: usize, bucket: Bucket)
     requires { 12 * b + 11 < length words.old }
     ensures { words.new ≡ words_with words.old b bucket }
 {
-    // By index: a place in the words goes with a place in the bucket.
-    for j in 0..4 {
-        slices::fill_cell(words, 4 * b + j, bucket.cells[j]);
+    for (j, &cell) in bucket.cells.iter().enumerate() {
+        slices::fill_cell(words, 4 * b + j, cell);
     }
 }
 

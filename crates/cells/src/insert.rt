@@ -43,7 +43,7 @@ pub struct Inserted {
     pub said: Result<InsertSaid, WalkError>,
     pub looked: usize,
     pub live: usize,
-    // The cell that was changed; any where none was.
+    // The cell that was changed; any where none was: its one reader comes after the answer was Ok, so a tag would be tested twice.
     pub at: usize,
 }
 

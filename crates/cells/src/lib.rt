@@ -113,9 +113,5 @@ pub fn window_of(size: usize) -> usize
     requires { 1 ≤ size }
     ensures { result ≡ window size }
 {
-    if size - 1 < Table::PROBE_LIMIT {
-        size - 1
-    } else {
-        Table::PROBE_LIMIT
-    }
+    (size - 1).min(Table::PROBE_LIMIT)
 }

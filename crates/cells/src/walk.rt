@@ -9,7 +9,7 @@ use crate::cell_of;
 use crate::slices::{first_delta, hash_at, holds_at, second_delta};
 use std::num::wrapping_add_u64;
 
-// Where a walk stops, by position. Of its three ends none is a failure to every caller, so it has no shape of a Result.
+// Where a walk stops, by position. Three ends and no Result: to the checker and to is_found of entryinsert Broken is an answer like Tail.
 #[derive(Clone, Copy)]
 pub enum Stop {
     Met(u64),

@@ -1,5 +1,5 @@
 // The insert that grows: after Full the table moves into the other half, at the sizes that document 01 names. The four slices come one by
-// one: their roles change with the half in use, and what is written is lent by name.
+// one: their roles change with the half in use, and a method on a struct would have to say which half is written in which role.
 #![tactic(auto)]
 
 ghost use Rattle.std.specs.Prelude.{List, [], ◌≡◌, ℕ, Ok, Err};
@@ -110,7 +110,7 @@ fn try_sizes(
     try_from(from, size, live, words, deltas, cells, first)
 }
 
-// How a round ends: with the call's answer, or with a move into so many cells.
+// How a round ends: with the call's answer, or with a move into so many cells. Neither is the failure of the other, so no Result.
 #[derive(Clone, Copy)]
 enum RoundEnd {
     Answered(Result<InsertSaid, GrowError>),

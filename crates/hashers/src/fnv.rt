@@ -13,6 +13,7 @@ fn fnv_byte(state: u64, byte: u8) -> u64
     util::wrapping_mul(state ^ u64::from(byte), 0x100000001b3)
 }
 
+// One of three types by name, as in simple.rt.
 #[derive(Clone, Copy)]
 pub struct FnvHasher(pub u64);
 

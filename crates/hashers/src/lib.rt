@@ -14,7 +14,7 @@ pub use murmur::MurmurHasher;
 pub use simple::SimpleHasher;
 
 // A write that was refused under 8, with the state as it was.
-#[derive(Clone, Copy)]
+#[derive(Clone, Copy, Debug, PartialEq, Eq)]
 pub struct Unwritten<H>(pub H);
 
 // Which hasher a table uses. An enum and no closure: a record by value holds it.

@@ -16,6 +16,7 @@ pub(crate) fn fmix(x: u64) -> u64
     d ^ (d >> 33)
 }
 
+// One of three types by name, as in simple.rt.
 #[derive(Clone, Copy)]
 pub struct MurmurHasher(pub u64);
 

@@ -4,7 +4,7 @@ ghost use Rattle.hashers.specs.Writes.{simple_said, simple_write, simple_start};
 
 use crate::Unwritten;
 
-// A type beside Murmur's, as document 01 lists the hashers: a trait for the two would be longer than their bodies, which differ in fmix.
+// One of three types by name, as document 01 lists the hashers; docs/API.md and the laws of outcomes speak of each.
 #[derive(Clone, Copy)]
 pub struct SimpleHasher(pub u64);
 

@@ -1,4 +1,4 @@
-// The hashers for C, by include/leapfrog_hash.h: bytes by pointer and length.
+// The hashers for C, by include/leapfrog_hash.h: bytes by pointer and length. C links each by its own name.
 #![tactic(auto)]
 
 ghost use Rattle.std.specs.Prelude.{◌≡◌};

@@ -1,5 +1,5 @@
 // The table of fixed size: two lent slices and a record by value. Every call is defined for any slices and any record: a value that
-// held all three would have nothing that is always true of it.
+// held all three would have nothing that is always true of it, and docs/API.md and the laws of outcomes name the three.
 #![tactic(auto)]
 
 ghost use Rattle.std.specs.Prelude.{◌≡◌};
@@ -29,7 +29,7 @@ pub enum LookupError {
 }
 
 // What a find says: the value, or none where the key is absent.
-#[derive(Clone, Copy)]
+#[derive(Clone, Copy, PartialEq, Eq)]
 pub struct FindAnswer {
     pub said: Result<Option<u64>, LookupError>,
     // How many cells were looked at.

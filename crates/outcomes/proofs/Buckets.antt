@@ -8,6 +8,7 @@ use Rattle.cells.specs.declared.Cell.{Cell}
 use Rattle.cells.specs.declared.ShapeError.{ShapeError}
 use Rattle.buckets.specs.Buckets.{Said, done, refused, taken, taking, put_said, Left, left, putting, cell_said, reading, Handed, changed, changing}
 use Rattle.buckets.specs.declared.Bucket.{Bucket}
+use Rattle.buckets.specs.declared.Unchanged.{Unchanged}
 use Rattle.outcomes.proofs.One.{both, one}
 
 -- ---- taking
@@ -64,12 +65,20 @@ bucket_cell_one_outcome self j r₁ r₂ e₁ e₂ = one cell_said cell_unsaid c
 
 -- ---- changing a cell
 
-changed_back : (k : Bucket) (r : Result Bucket ShapeError) → untaken (changed k r) ≡ r
-changed_back k (Ok n) = refl
-changed_back k (Err e) = refl
+abbrev unchanged : Handed → Result Bucket Unchanged
+unchanged h = go h.said
+  where
+    go : Said → Result Bucket Unchanged
+    go done = Ok h.bucket
+    go (says.cell c) = Ok h.bucket
+    go (refused n) = Err (record { 0 = h.bucket })
 
-pub bucket_with_cell_one_outcome : (self : Bucket) (j : ℕ) (cell : Cell) (r₁ r₂ : Result Bucket ShapeError)
-    → changed self r₁ ≡ changing self j cell
-    → changed self r₂ ≡ changing self j cell
+changed_back : (r : Result Bucket Unchanged) → unchanged (changed r) ≡ r
+changed_back (Ok k) = refl
+changed_back (Err e) = refl
+
+pub bucket_with_cell_one_outcome : (self : Bucket) (j : ℕ) (cell : Cell) (r₁ r₂ : Result Bucket Unchanged)
+    → changed r₁ ≡ changing self j cell
+    → changed r₂ ≡ changing self j cell
     → r₁ ≡ r₂
-bucket_with_cell_one_outcome self j cell r₁ r₂ e₁ e₂ = one (changed self) untaken (changed_back self) r₁ r₂ (both e₁ e₂)
+bucket_with_cell_one_outcome self j cell r₁ r₂ e₁ e₂ = one changed unchanged changed_back r₁ r₂ (both e₁ e₂)

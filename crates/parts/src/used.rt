@@ -1,5 +1,6 @@
 // The parts: the front of the half in use, as slices. With the table record they are a table for every call that reads one.
-// A part of length 0 is handed back under 1: lengths not those of C cells each for an allowed C, a size not allowed or above C,
+// A part of length 0 is handed back under 1, and no Result: document 01 asks for just that.
+// Refusal 1: lengths not those of C cells each for an allowed C, a size not allowed or above C,
 // live above the size.
 ghost use Rattle.std.specs.Prelude.{◌≡◌, ◌/◌, ◌≤◌, length};
 ghost use Rattle.parts.specs.Halves.{part, used_words, used_deltas};

@@ -1,5 +1,5 @@
 // Internal: the sample that follows Full, the first size to try, and that size as the Rust computes it. A sample's count is a number with
-// its bound: it is made once and read once.
+// its bound: it is made in one place, and goes straight to the size.
 #![tactic(auto)]
 
 ghost use Rattle.std.specs.Prelude.{◌≡◌, ℕ, ◌+◌, ◌*◌, ◌^◌, ◌<◌, ◌≤◌, max, true, List, length};

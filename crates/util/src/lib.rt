@@ -6,7 +6,8 @@ ghost use Rattle.util.specs.Bytes.{number, load, said};
 ghost use Rattle.util.specs.Power.{round_up};
 
 // a * b modulo 2^64, from 32-bit digits: low_a times b, and high_a times low_b. The product of the two high digits is a multiple of
-// 2^64. Of the crossed products the low digit alone counts; the first is cut to it, so that no sum here reaches 2^64.
+// 2^64. Of the crossed products the low digit alone counts; the first is cut to it, so that no sum here reaches 2^64. By hand and not by
+// u64's own method: docs/requests/03.md says what this body costs on 32-bit boards.
 pub fn wrapping_mul(a: u64, b: u64) -> u64
     ensures { result ≡ (a * b) % 2 ^ 64 }
 {
@@ -19,7 +20,7 @@ pub fn wrapping_mul(a: u64, b: u64) -> u64
     ((high_a * low_b + crossed) << 32) | (low & 0xffff_ffff)
 }
 
-// The least power of two that is at least x; 0 for 0 and for what is above 2^63.
+// The least power of two that is at least x; 0 for 0 and for what is above 2^63, as document 01 has it.
 #[tactic(auto, using(crate::proofs::Powers::round_none))]
 pub fn round_to_pow2(x: u64) -> u64
     ensures { result ≡ round_up x }

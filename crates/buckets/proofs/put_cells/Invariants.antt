@@ -5,4 +5,4 @@ use Rattle.buckets.proofs.Stores.{fills}
 use Rattle.buckets.proofs.put_cells.Given as goal
 
 abbrev pub invariant-loop-j : goal.invariant-loop-j
-invariant-loop-j l = fills l.words (4 * l.b + l.j) (listed (4 - l.j) (λ m. cell_in l.bucket (l.j + m))) ≡ words_with l.initial.words l.b l.bucket
+invariant-loop-j l = fills l.words (4 * l.b + l.j) (listed (4 - l.j) (λ m. cell_in l.fn.bucket (l.j + m))) ≡ words_with l.initial.words l.b l.fn.bucket
