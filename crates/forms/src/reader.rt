@@ -1,11 +1,29 @@
-// Lines from standard input, one after the other.
-use crate::line::Line;
+// Lines from a source, one after the other. They are read into memory that is there already: std's own lines are allocated.
+ghost use Rattle.std.specs.Prelude.{◌≤◌, IfOk, length};
 
-// Standard input.
-const STDIN_FILENO: i32 = 0;
+use crate::line::Line;
+use std::io;
+use std::io::Read;
+
+// Reads until the buffer is full or the source ends, and returns how many bytes it put at the buffer's start. Each turn but the last
+// reads at least one.
+pub fn read_full<R: Read>(source: &mut R, buffer: &mut [u8]) -> io::Result<usize>
+    ensures { IfOk result (λ n. n ≤ length buffer.new) }
+{
+    let mut n = 0;
+    for _ in 0..buffer.len() {
+        let read = source.read(&mut buffer[n..])?;
+        if read == 0 {
+            break;
+        }
+        n += read;
+    }
+    Ok(n)
+}
 
 #[derive(Drop)]
-pub struct Reader<'a> {
+pub struct Reader<'a, R> {
+    source: &'a mut R,
     // What was read last, and which part of it is still to be taken.
     input: &'a mut [u8],
     at: usize,
@@ -13,10 +31,11 @@ pub struct Reader<'a> {
     ended: bool,
 }
 
-impl<'a> Reader<'a> {
+impl<'a, R: Read> Reader<'a, R> {
     // With the first n bytes of the input read already.
-    pub fn new(input: &'a mut [u8], n: usize) -> Reader<'a> {
+    pub fn new(source: &'a mut R, input: &'a mut [u8], n: usize) -> Reader<'a, R> {
         Reader {
+            source,
             input,
             at: 0,
             end: n,
@@ -26,18 +45,18 @@ impl<'a> Reader<'a> {
 
     // Reads the next line, and tells whether there is one. A last line may have no end of its own. The turns are counted, so that the
     // loop ends.
-    pub fn read_line<const N: usize>(&mut self, line: &mut Line<N>) -> bool {
+    pub fn read_line<const N: usize>(&mut self, line: &mut Line<N>) -> io::Result<bool> {
         line.clear();
         for _ in 0..u64::MAX {
             if self.ended {
                 break;
             }
             if self.take(line) {
-                return true;
+                return Ok(true);
             }
-            self.refill();
+            self.refill()?;
         }
-        !line.is_empty()
+        Ok(!line.is_empty())
     }
 
     // Takes what is there of a line, and tells whether its end is there.
@@ -60,9 +79,10 @@ impl<'a> Reader<'a> {
         }
     }
 
-    fn refill(&mut self) {
+    fn refill(&mut self) -> io::Result<()> {
         self.at = 0;
-        self.end = io::read_full(STDIN_FILENO, self.input);
+        self.end = read_full(self.source, self.input)?;
         self.ended = self.end == 0;
+        Ok(())
     }
 }

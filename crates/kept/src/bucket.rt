@@ -43,11 +43,13 @@ fn copy(words: &mut [u64], deltas: &mut [u8], b: usize, c: usize) -> Told {
 
 // cell B J: cell J of bucket B.
 fn cell(words: &[u64], deltas: &[u8], b: usize, j: usize) -> Told {
-    Told::of(taken(words, deltas, b).cell(j).map(|cell| Told {
-        second: cell.key,
-        third: cell.value,
-        ..Told::carrying(Said::Cell, cell.hash)
-    }))
+    Told::of(
+        taken(words, deltas, b).cell(j).map(|cell| Told {
+            second: cell.key,
+            third: cell.value,
+            ..Told::carrying(Said::Cell, cell.hash)
+        }),
+    )
 }
 
 // change B J KEY VALUE: bucket B is taken out, its cell J becomes that key's, and it is put back where it was. Where it has no cell J,

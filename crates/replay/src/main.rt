@@ -3,28 +3,20 @@
 // are those of the Rust or, off its domain, of the model of document 01.
 #![tactic(auto)]
 
-use forms::line::Line;
+use forms::reader::read_full;
 use kept::{Memory, with_memory};
 use serving::lines;
 use serving::lines::Mode;
-use std::fmt::Write;
+use std::io;
 
-// Standard input.
-const STDIN_FILENO: i32 = 0;
-
-fn run(memory: &mut Memory) {
+fn run(rt: &(impl Input + Print), memory: &mut Memory) -> io::Result<()> {
+    let mut source = rt.reader();
     let mut input = [0; 20_480];
-    let n = io::read_full(STDIN_FILENO, &mut input);
-    let all = lines::serve(memory, &mut input, n, Mode::Replay);
-    let mut line = Line::<64>::new();
-    let _ = write!(
-        line,
-        "{} requests, {} differences",
-        all.requests, all.differences
-    );
-    line.print();
+    let n = read_full(&mut source, &mut input)?;
+    let all = lines::serve(rt, memory, &mut source, &mut input, n, Mode::Replay)?;
+    println!(rt; "{} requests, {} differences", all.requests, all.differences)
 }
 
-fn main() {
-    with_memory(run);
+fn main(rt: HostRuntime) -> io::Result<()> {
+    with_memory(|memory| run(&rt, memory))
 }
