@@ -69,7 +69,13 @@ fn differs(rt: &impl Print, made: &mut Output, recorded: &[u8]) -> io::Result<bo
 }
 
 // Serves the request in a line. In a replay it tells whether the answer differs.
-fn answer(rt: &impl Print, memory: &mut Memory, state: &mut State, line: &[u8], mode: Mode) -> io::Result<bool> {
+fn answer(
+    rt: &impl Print,
+    memory: &mut Memory,
+    state: &mut State,
+    line: &[u8],
+    mode: Mode,
+) -> io::Result<bool> {
     let asked = asked(line);
     let request = text::read(asked);
     let kind = request.map(|request| request.kind);
@@ -92,7 +98,14 @@ fn answer(rt: &impl Print, memory: &mut Memory, state: &mut State, line: &[u8], 
 }
 
 // Serves a line. One that is no request is written as it is.
-fn one(rt: &impl Print, memory: &mut Memory, state: &mut State, input: &Input, mode: Mode, tally: &mut Tally) -> io::Result<()> {
+fn one(
+    rt: &impl Print,
+    memory: &mut Memory,
+    state: &mut State,
+    input: &Input,
+    mode: Mode,
+    tally: &mut Tally,
+) -> io::Result<()> {
     let line = input.as_slice();
     if input.is_full() {
         println!(rt; "a line that is too long: no such request")?;
@@ -108,7 +121,14 @@ fn one(rt: &impl Print, memory: &mut Memory, state: &mut State, input: &Input, m
 }
 
 // Serves all lines of a source, of which the first n bytes are read already. The turns are counted, so that the loop ends.
-pub fn serve<R: Read>(rt: &impl Print, memory: &mut Memory, source: &mut R, input: &mut [u8], n: usize, mode: Mode) -> io::Result<Tally> {
+pub fn serve<R: Read>(
+    rt: &impl Print,
+    memory: &mut Memory,
+    source: &mut R,
+    input: &mut [u8],
+    n: usize,
+    mode: Mode,
+) -> io::Result<Tally> {
     let mut state = State::start();
     let mut tally = Tally::default();
     let mut reader = Reader::new(source, input, n);
