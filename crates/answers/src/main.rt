@@ -25,7 +25,13 @@ fn block(rt: &impl Print, memory: &mut Memory, state: &mut State, input: &[u8]) 
 }
 
 // Answers all requests, of which the first n bytes are read already. The turns are counted, so that the loop ends.
-fn compact<R: Read>(rt: &impl Print, memory: &mut Memory, source: &mut R, input: &mut [u8], first: usize) -> io::Result<()> {
+fn compact<R: Read>(
+    rt: &impl Print,
+    memory: &mut Memory,
+    source: &mut R,
+    input: &mut [u8],
+    first: usize,
+) -> io::Result<()> {
     let mut state = State::start();
     let mut n = first;
     for _ in 0..u64::MAX {
