@@ -4,7 +4,7 @@
 #![tactic(auto)]
 
 use forms::bytes;
-use forms::reader::read_full;
+use forms::reader::Reader;
 use kept::{Memory, State, with_memory};
 use serving::lines::Mode;
 use serving::{lines, turn};
@@ -24,41 +24,34 @@ fn block(rt: &impl Print, memory: &mut Memory, state: &mut State, input: &[u8]) 
     rt.write_all(answers[..requests.len().min(BLOCK)].as_flattened())
 }
 
-// Answers all requests, of which the first n bytes are read already. The turns are counted, so that the loop ends.
+// Answers all requests in the compact form. The turns are counted, so that the loop ends.
 fn compact<R: Read>(
     rt: &impl Print,
     memory: &mut Memory,
-    source: &mut R,
-    input: &mut [u8],
-    first: usize,
+    reader: &mut Reader<'_, R>,
 ) -> io::Result<()> {
     let mut state = State::start();
-    let mut n = first;
     for _ in 0..u64::MAX {
-        if n == 0 {
+        if reader.has_ended() {
             break;
         }
-        if let Some(read) = input.get(..n) {
-            block(rt, memory, &mut state, read)?;
-        }
-        n = read_full(source, input)?;
+        block(rt, memory, &mut state, reader.rest())?;
+        reader.refill()?;
     }
     Ok(())
 }
 
 // Answers all requests in the form that the input is in.
-fn run(rt: &(impl Input + Print), memory: &mut Memory) -> io::Result<()> {
-    let mut source = rt.reader();
+fn run<R: Read>(rt: &impl Print, memory: &mut Memory, source: &mut R) -> io::Result<()> {
     let mut input = [0; 20_480];
-    let n = read_full(&mut source, &mut input)?;
-    if input[0] == 0 {
-        compact(rt, memory, &mut source, &mut input, n)
-    } else {
-        lines::serve(rt, memory, &mut source, &mut input, n, Mode::Answer)?;
-        Ok(())
+    let mut reader = Reader::new(source, &mut input)?;
+    if reader.rest().starts_with(&[0]) {
+        return compact(rt, memory, &mut reader);
     }
+    lines::serve(rt, memory, &mut reader, Mode::Answer)?;
+    Ok(())
 }
 
 fn main(rt: HostRuntime) -> io::Result<()> {
-    with_memory(|memory| run(&rt, memory))
+    with_memory(|memory| run(&rt, memory, &mut rt.stdin()))
 }

@@ -3,20 +3,20 @@
 // are those of the Rust or, off its domain, of the model of document 01.
 #![tactic(auto)]
 
-use forms::reader::read_full;
+use forms::reader::Reader;
 use kept::{Memory, with_memory};
 use serving::lines;
 use serving::lines::Mode;
 use std::io;
+use std::io::Read;
 
-fn run(rt: &(impl Input + Print), memory: &mut Memory) -> io::Result<()> {
-    let mut source = rt.reader();
+fn run<R: Read>(rt: &impl Print, memory: &mut Memory, source: &mut R) -> io::Result<()> {
     let mut input = [0; 20_480];
-    let n = read_full(&mut source, &mut input)?;
-    let all = lines::serve(rt, memory, &mut source, &mut input, n, Mode::Replay)?;
+    let mut reader = Reader::new(source, &mut input)?;
+    let all = lines::serve(rt, memory, &mut reader, Mode::Replay)?;
     println!(rt; "{} requests, {} differences", all.requests, all.differences)
 }
 
 fn main(rt: HostRuntime) -> io::Result<()> {
-    with_memory(|memory| run(&rt, memory))
+    with_memory(|memory| run(&rt, memory, &mut rt.stdin()))
 }

@@ -120,18 +120,15 @@ fn one(
     Ok(())
 }
 
-// Serves all lines of a source, of which the first n bytes are read already. The turns are counted, so that the loop ends.
+// Serves all lines of what is read. The turns are counted, so that the loop ends.
 pub fn serve<R: Read>(
     rt: &impl Print,
     memory: &mut Memory,
-    source: &mut R,
-    input: &mut [u8],
-    n: usize,
+    reader: &mut Reader<'_, R>,
     mode: Mode,
 ) -> io::Result<Tally> {
     let mut state = State::start();
     let mut tally = Tally::default();
-    let mut reader = Reader::new(source, input, n);
     let mut line = Input::new();
     for _ in 0..u64::MAX {
         if !reader.read_line(&mut line)? {
