@@ -14,7 +14,10 @@ fn run<R: Read>(rt: &impl Print, memory: &mut Memory, source: &mut R) -> io::Res
     let mut input = [0; 20_480];
     let mut reader = Reader::new(source, &mut input)?;
     let all = lines::serve(rt, memory, &mut reader, Mode::Replay)?;
-    println!(rt; "{} requests, {} differences", all.requests, all.differences)
+    println!(rt;
+        "{} requests, {} differences",
+        all.requests, all.differences
+    )
 }
 
 fn main(rt: HostRuntime) -> io::Result<()> {
