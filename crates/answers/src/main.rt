@@ -4,53 +4,54 @@
 #![tactic(auto)]
 
 use forms::bytes;
-use forms::line::print;
+use forms::reader::Reader;
 use kept::{Memory, State, with_memory};
 use serving::lines::Mode;
 use serving::{lines, turn};
-
-// Standard input.
-const STDIN_FILENO: i32 = 0;
+use std::io;
+use std::io::Read;
 
 // How many requests are read at once, at most.
 const BLOCK: usize = 512;
 
 // Answers the whole requests in a block of input.
-fn block(memory: &mut Memory, state: &mut State, input: &[u8]) {
+fn block(rt: &impl Print, memory: &mut Memory, state: &mut State, input: &[u8]) -> io::Result<()> {
     let requests = input.as_chunks().0;
     let mut answers = [[0; 72]; BLOCK];
     for (answer, request) in answers.iter_mut().zip(requests) {
         *answer = bytes::write(&turn(memory, state, bytes::read(request)));
     }
-    print(answers[..requests.len().min(BLOCK)].as_flattened());
+    rt.write_all(answers[..requests.len().min(BLOCK)].as_flattened())
 }
 
-// Answers all requests, of which the first n bytes are read already. The turns are counted, so that the loop ends.
-fn compact(memory: &mut Memory, input: &mut [u8], first: usize) {
+// Answers all requests in the compact form. The turns are counted, so that the loop ends.
+fn compact<R: Read>(
+    rt: &impl Print,
+    memory: &mut Memory,
+    reader: &mut Reader<'_, R>,
+) -> io::Result<()> {
     let mut state = State::start();
-    let mut n = first;
     for _ in 0..u64::MAX {
-        if n == 0 {
+        if reader.has_ended() {
             break;
         }
-        if let Some(read) = input.get(..n) {
-            block(memory, &mut state, read);
-        }
-        n = io::read_full(STDIN_FILENO, input);
+        block(rt, memory, &mut state, reader.rest())?;
+        reader.refill()?;
     }
+    Ok(())
 }
 
 // Answers all requests in the form that the input is in.
-fn run(memory: &mut Memory) {
+fn run<R: Read>(rt: &impl Print, memory: &mut Memory, source: &mut R) -> io::Result<()> {
     let mut input = [0; 20_480];
-    let n = io::read_full(STDIN_FILENO, &mut input);
-    if input[0] == 0 {
-        compact(memory, &mut input, n);
-    } else {
-        lines::serve(memory, &mut input, n, Mode::Answer);
+    let mut reader = Reader::new(source, &mut input)?;
+    if reader.rest().starts_with(&[0]) {
+        return compact(rt, memory, &mut reader);
     }
+    lines::serve(rt, memory, &mut reader, Mode::Answer)?;
+    Ok(())
 }
 
-fn main() {
-    with_memory(run);
+fn main(rt: HostRuntime) -> io::Result<()> {
+    with_memory(|memory| run(&rt, memory, &mut rt.stdin()))
 }

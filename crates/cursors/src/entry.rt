@@ -1,7 +1,7 @@
 // Making an entry, and the calls for Occupied ones.
 use cells::Table;
 use forms::{Kind, Said, Told};
-use hashentry::{Entry, EntryRemoveSaid, EntrySaid, GetSaid, Place, ReplaceSaid};
+use hashentry::{Entry, Place};
 
 // The hash of an entry, and its cell where it is Occupied.
 fn shown(entry: Entry) -> Told {
@@ -16,72 +16,42 @@ fn shown(entry: Entry) -> Told {
 
 // entry KEY: the entry is held from now on; under a refusal the one before is.
 fn make(words: &[u64], deltas: &[u8], table: Table, held: &mut Entry, key: u64) -> Told {
-    match hashentry::entry(words, deltas, table, key) {
-        EntrySaid::Made(entry) => {
-            *held = entry;
-            shown(entry)
-        }
-        EntrySaid::Shape => Told::plain(Said::Shape),
-        EntrySaid::ZeroHash => Told::plain(Said::ZeroHash),
-        EntrySaid::Broken => Told::plain(Said::Broken),
-    }
+    let made = hashentry::entry(words, deltas, table, key);
+    *held = made.unwrap_or(*held);
+    Told::of(made.map(shown))
 }
 
-fn got(answer: GetSaid) -> Told {
-    match answer {
-        GetSaid::Found(value) => Told::carrying(Said::Found, value),
-        GetSaid::Shape => Told::plain(Said::Shape),
-        GetSaid::ZeroHash => Told::plain(Said::ZeroHash),
-        GetSaid::Stale => Told::plain(Said::Stale),
-    }
+// entry_get
+fn get(words: &[u64], deltas: &[u8], table: Table, entry: Entry) -> Told {
+    let said = hashentry::get(words, deltas, table, entry);
+    Told::of(said.map(|value| Told::carrying(Said::Found, value)))
 }
 
-fn replaced(answer: ReplaceSaid) -> Told {
-    match answer {
-        ReplaceSaid::Replaced(old) => Told::carrying(Said::Replaced, old),
-        ReplaceSaid::Shape => Told::plain(Said::Shape),
-        ReplaceSaid::ZeroHash => Told::plain(Said::ZeroHash),
-        ReplaceSaid::Null => Told::plain(Said::Null),
-        ReplaceSaid::Stale => Told::plain(Said::Stale),
-    }
-}
-
-fn removed(answer: EntryRemoveSaid) -> Told {
-    match answer {
-        EntryRemoveSaid::Removed(old) => Told::carrying(Said::Removed, old),
-        EntryRemoveSaid::Shape => Told::plain(Said::Shape),
-        EntryRemoveSaid::ZeroHash => Told::plain(Said::ZeroHash),
-        EntryRemoveSaid::Broken => Told::plain(Said::Broken),
-        EntryRemoveSaid::Stale => Told::plain(Said::Stale),
-    }
+// entry_replace VALUE
+fn replace(words: &mut [u64], deltas: &[u8], table: Table, entry: Entry, value: u64) -> Told {
+    let said = hashentry::replace(words, deltas, table, entry, value);
+    Told::of(said.map(|old| Told::carrying(Said::Replaced, old)))
 }
 
 // entry_remove
 fn remove(words: &mut [u64], deltas: &[u8], table: &mut Table, entry: Entry) -> Told {
     let answer = hashentry::remove(words, deltas, *table, entry);
     *table = answer.table;
-    removed(answer.said)
+    Told::of(answer.said.map(|old| Told::carrying(Said::Removed, old)))
 }
 
-// The key with what was said: as a pair with the value that was removed.
-fn with_key(told: Told, key: u64) -> Told {
-    let said = match told.said {
-        Said::Removed => Said::Pair,
-        said => said,
-    };
-    Told {
-        said,
-        first: key,
-        second: told.first,
-        ..told
-    }
-}
-
-// remove_entry
+// remove_entry: the key with the value that was removed, or with the refusal.
 fn remove_entry(words: &mut [u64], deltas: &[u8], table: &mut Table, entry: Entry) -> Told {
     let answer = hashentry::remove_entry(words, deltas, *table, entry);
     *table = answer.table;
-    with_key(removed(answer.said), answer.key)
+    let told = Told::of(answer.said.map(|old| Told {
+        second: old,
+        ..Told::plain(Said::Pair)
+    }));
+    Told {
+        first: answer.key,
+        ..told
+    }
 }
 
 // Serves a request for the entry that is held; nothing where it is none.
@@ -98,8 +68,8 @@ pub fn serve(
     Some(match kind {
         Kind::Entry => make(words, deltas, record, held, a),
         Kind::EntryKey => Told::carrying(Said::Number, hashentry::key(entry)),
-        Kind::EntryGet => got(hashentry::get(words, deltas, record, entry)),
-        Kind::EntryReplace => replaced(hashentry::replace(words, deltas, record, entry, a)),
+        Kind::EntryGet => get(words, deltas, record, entry),
+        Kind::EntryReplace => replace(words, deltas, record, entry, a),
         Kind::EntryRemove => remove(words, deltas, table, entry),
         Kind::RemoveEntry => remove_entry(words, deltas, table, entry),
         _ => return None,

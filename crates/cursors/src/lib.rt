@@ -8,7 +8,7 @@ mod insert;
 use cells::Table;
 use forms::{Kind, Request, Said, Told};
 use hashentry::{CellAt, Entry, Place};
-use hashiter::{Cursor, SetSaid, StepSaid};
+use hashiter::Cursor;
 
 // What a user holds beside the table.
 #[derive(Clone, Copy)]
@@ -31,33 +31,28 @@ impl Hand {
     }
 }
 
-// Said of a step that left the cursor there.
-fn stepped(answer: StepSaid, position: usize) -> Told {
-    match answer {
-        StepSaid::Next(cell) => Told {
+// step: the cursor goes on to the next live cell. At the end, and under a refusal, it is told where the cursor is.
+fn step(words: &[u64], deltas: &[u8], table: Table, held: &mut Hand) -> Told {
+    let answer = held.cursor.step(words, deltas, table);
+    held.cursor = answer.cursor;
+    let position = answer.cursor.position as u64;
+    match answer.said {
+        Ok(Some(cell)) => Told {
             second: cell.key,
             third: cell.value,
             ..Told::carrying(Said::Next, cell.index as u64)
         },
-        StepSaid::End => Told::carrying(Said::AtEnd, position as u64),
-        StepSaid::Shape => Told::carrying(Said::Shape, position as u64),
+        Ok(None) => Told::carrying(Said::AtEnd, position),
+        Err(refused) => Told {
+            first: position,
+            ..Told::from(refused)
+        },
     }
 }
 
-// step: the cursor goes on to the next live cell.
-fn step(words: &[u64], deltas: &[u8], table: Table, held: &mut Hand) -> Told {
-    let answer = held.cursor.step(words, deltas, table);
-    held.cursor = answer.cursor;
-    stepped(answer.said, answer.cursor.position)
-}
-
-fn set(answer: SetSaid) -> Told {
-    match answer {
-        SetSaid::Replaced(old) => Told::carrying(Said::Replaced, old),
-        SetSaid::Absent => Told::plain(Said::Absent),
-        SetSaid::Shape => Told::plain(Said::Shape),
-        SetSaid::Null => Told::plain(Said::Null),
-    }
+fn set(words: &mut [u64], deltas: &[u8], table: Table, index: usize, value: u64) -> Told {
+    let said = hashiter::set_value(words, deltas, table, index, value);
+    Told::of(said.map(|old| Told::present(Said::Replaced, old)))
 }
 
 // cursor P: the cursor is there from now on.
@@ -86,7 +81,7 @@ pub fn serve(
     match kind {
         Kind::Cursor => Some(move_to(held, a)),
         Kind::Step => Some(step(words, deltas, *table, held)),
-        Kind::Set => Some(set(hashiter::set_value(words, deltas, *table, a as usize, b))),
+        Kind::Set => Some(set(words, deltas, *table, a as usize, b)),
         Kind::ForgeOccupied => {
             let place = Place::Occupied(CellAt { index: c as usize });
             Some(forge(held, a, b, place))

@@ -10,10 +10,12 @@ pub mod line;
 pub mod reader;
 pub mod said;
 pub mod text;
+pub mod told;
 
 use hashers::Hasher;
 pub use kind::{Group, Kind};
 pub use said::Said;
+pub use told::Told;
 
 // What is asked: a kind, and the numbers that it carries.
 #[derive(Clone, Copy)]
@@ -23,41 +25,6 @@ pub struct Request {
     pub b: u64,
     pub c: u64,
     pub d: u64,
-}
-
-// What was said, with its values and the cells looked at.
-#[derive(Clone, Copy)]
-pub struct Told {
-    pub said: Said,
-    pub first: u64,
-    pub second: u64,
-    pub third: u64,
-    pub looked: u64,
-}
-
-impl Told {
-    // With no value and no cell looked at.
-    pub fn plain(said: Said) -> Told {
-        Told::carrying(said, 0)
-    }
-
-    pub fn carrying(said: Said, first: u64) -> Told {
-        Told {
-            said,
-            first,
-            second: 0,
-            third: 0,
-            looked: 0,
-        }
-    }
-
-    // With the cells looked at.
-    pub fn counted(said: Said, first: u64, looked: usize) -> Told {
-        Told {
-            looked: looked as u64,
-            ..Told::carrying(said, first)
-        }
-    }
 }
 
 // What was told; the record after it; the number of cells, 0 for a bad shape; and the digest, which is not 0.

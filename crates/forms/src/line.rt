@@ -1,11 +1,8 @@
 // A line of text in a fixed place. What does not fit is left out.
 ghost use Rattle.std.specs.Prelude.{◌≡◌, ◌≤◌, ◌↔◌, ℕ, List, [], ◌++◌, length, take, IsTrue};
 
-use std::fmt;
 use std::marker::Model;
-
-// Standard output.
-const STDOUT_FILENO: i32 = 1;
+use std::{fmt, io};
 
 #[derive(Drop)]
 pub struct Line<const N: usize> {
@@ -67,10 +64,10 @@ impl<const N: usize> Line<N> {
         &self.bytes[..self.used]
     }
 
-    // Writes the line, and ends it.
-    pub fn print(&mut self) {
+    // Writes the line to standard output, and ends it. It is bytes and need not be text, so it is not printed by println.
+    pub fn print(&mut self, rt: &impl Print) -> io::Result<()> {
         self.extend(b"\n");
-        print(self.as_slice());
+        rt.write_all(self.as_slice())
     }
 }
 
@@ -81,9 +78,4 @@ impl<const N: usize> fmt::Write for Line<N> {
         self.extend(text.as_bytes());
         Ok(())
     }
-}
-
-// Writes bytes to standard output. A failure goes unseen.
-pub fn print(bytes: &[u8]) {
-    let _ = io::write_all(STDOUT_FILENO, bytes);
 }

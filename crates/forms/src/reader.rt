@@ -1,56 +1,87 @@
-// Lines from standard input, one after the other.
+// A source, read block by block into memory that is lent: std's readers of lines allocate.
+ghost use Rattle.std.specs.Prelude.{◌≤◌, IfOk, length};
+
 use crate::line::Line;
+use std::io;
+use std::io::Read;
 
-// Standard input.
-const STDIN_FILENO: i32 = 0;
-
-#[derive(Drop)]
-pub struct Reader<'a> {
-    // What was read last, and which part of it is still to be taken.
-    input: &'a mut [u8],
-    at: usize,
-    end: usize,
-    ended: bool,
+// Reads until the buffer is full or the source ends, and returns how many bytes it put at the buffer's start. Each turn but the last
+// reads at least one.
+fn read_full<R: Read>(source: &mut R, buffer: &mut [u8]) -> io::Result<usize>
+    ensures { IfOk result (λ n. n ≤ length buffer.new) }
+{
+    let mut n = 0;
+    for _ in 0..buffer.len() {
+        let read = source.read(&mut buffer[n..])?;
+        if read == 0 {
+            break;
+        }
+        n += read;
+    }
+    Ok(n)
 }
 
-impl<'a> Reader<'a> {
-    // With the first n bytes of the input read already.
-    pub fn new(input: &'a mut [u8], n: usize) -> Reader<'a> {
-        Reader {
-            input,
+#[derive(Drop)]
+pub struct Reader<'a, R> {
+    source: &'a mut R,
+    // The block that was read last, and which part of it is still to be taken.
+    block: &'a mut [u8],
+    at: usize,
+    end: usize,
+}
+
+impl<'a, R: Read> Reader<'a, R> {
+    // With the first block read.
+    pub fn new(source: &'a mut R, block: &'a mut [u8]) -> io::Result<Reader<'a, R>> {
+        let end = read_full(source, block)?;
+        Ok(Reader {
+            source,
+            block,
             at: 0,
-            end: n,
-            ended: n == 0,
-        }
+            end,
+        })
+    }
+
+    // The part of the block that is still to be taken.
+    pub fn rest(&self) -> &[u8] {
+        self.block.get(self.at..self.end).unwrap_or(&[])
+    }
+
+    // Whether the last block is empty, as the one behind the source's end is.
+    pub fn has_ended(&self) -> bool {
+        self.end == 0
+    }
+
+    // Reads the next block.
+    pub fn refill(&mut self) -> io::Result<()> {
+        self.at = 0;
+        self.end = read_full(self.source, self.block)?;
+        Ok(())
     }
 
     // Reads the next line, and tells whether there is one. A last line may have no end of its own. The turns are counted, so that the
     // loop ends.
-    pub fn read_line<const N: usize>(&mut self, line: &mut Line<N>) -> bool {
+    pub fn read_line<const N: usize>(&mut self, line: &mut Line<N>) -> io::Result<bool> {
         line.clear();
         for _ in 0..u64::MAX {
-            if self.ended {
+            if self.has_ended() {
                 break;
             }
             if self.take(line) {
-                return true;
+                return Ok(true);
             }
-            self.refill();
+            self.refill()?;
         }
-        !line.is_empty()
+        Ok(!line.is_empty())
     }
 
     // Takes what is there of a line, and tells whether its end is there.
     fn take<const N: usize>(&mut self, line: &mut Line<N>) -> bool {
-        let at = self.at;
-        let end = self.end;
-        let Some(rest) = self.input.get(at..end) else {
-            return false;
-        };
+        let rest = self.rest();
         match rest.iter().position(|byte| *byte == b'\n') {
             Some(n) => {
                 line.extend(&rest[..n]);
-                self.at = at + n + 1;
+                self.at = self.at.saturating_add(n + 1);
                 true
             }
             None => {
@@ -58,11 +89,5 @@ impl<'a> Reader<'a> {
                 false
             }
         }
-    }
-
-    fn refill(&mut self) {
-        self.at = 0;
-        self.end = io::read_full(STDIN_FILENO, self.input);
-        self.ended = self.end == 0;
     }
 }

@@ -1,5 +1,6 @@
 // Moves and growing tables as requests. The lower half is what is lent of the table's arrays, the upper half what is lent of the
-// spare ones; for a plain move they are the table and the destination.
+// spare ones; for a plain move they are the table and the destination. The halves are four slices and no struct: a struct's field that
+// is a `&mut` is not lent as `&` beside another that is lent as `&mut`, which a move and a remove need.
 #![tactic(auto)]
 
 mod answers;
@@ -103,11 +104,11 @@ pub fn serve(
             parts::used_words(lower_words, upper_words, record),
             parts::used_deltas(lower_deltas, upper_deltas, record),
         ),
-        Kind::GrowCheck => answers::checked(checker::check(
-            parts::used_words(lower_words, upper_words, record),
-            parts::used_deltas(lower_deltas, upper_deltas, record),
-            table,
-        )),
+        Kind::GrowCheck => {
+            let words = parts::used_words(lower_words, upper_words, record);
+            let deltas = parts::used_deltas(lower_deltas, upper_deltas, record);
+            Told::of(checker::check(words, deltas, table).map(|()| Told::plain(Said::Sound)))
+        }
         _ => return None,
     })
 }

@@ -1,5 +1,5 @@
 // Buckets out and in.
-use buckets::{Bucket, Cell, CellSaid, ChangeSaid, PutSaid, TakeSaid};
+use buckets::{Bucket, Cell};
 use forms::digest::{mix, mix_all};
 use forms::{Kind, Request, Said, Told};
 use hashers::Hasher;
@@ -17,55 +17,51 @@ fn digest_of(bucket: Bucket) -> u64 {
     mix_all(cells, &bucket.deltas)
 }
 
-// take B: what is handed back, by its digest; an empty bucket under a refusal.
+// Bucket B, or an empty one under a refusal.
+fn taken(words: &[u64], deltas: &[u8], b: usize) -> Bucket {
+    buckets::take_bucket(words, deltas, b).unwrap_or(Bucket::EMPTY)
+}
+
+// take B: the bucket by its digest; that of an empty one under a refusal.
 fn take(words: &[u64], deltas: &[u8], b: usize) -> Told {
     let answer = buckets::take_bucket(words, deltas, b);
-    let answered = answer.said;
-    let bucket = answer.bucket;
-    match answered {
-        TakeSaid::Taken => Told::carrying(Said::Taken, digest_of(bucket)),
-        TakeSaid::Shape => Told::carrying(Said::Shape, digest_of(bucket)),
+    Told {
+        first: digest_of(answer.unwrap_or(Bucket::EMPTY)),
+        ..Told::of(answer.map(|_bucket| Told::plain(Said::Taken)))
     }
 }
 
-fn put(answer: PutSaid) -> Told {
-    match answer {
-        PutSaid::Put => Told::plain(Said::Put),
-        PutSaid::Shape => Told::plain(Said::Shape),
-    }
+fn put(words: &mut [u64], deltas: &mut [u8], b: usize, bucket: Bucket) -> Told {
+    Told::of(buckets::put_bucket(words, deltas, b, bucket).map(|()| Told::plain(Said::Put)))
 }
 
-// copy B C: bucket B is taken out, whatever is said, and put back as bucket C.
+// copy B C: bucket B is taken out, an empty one under a refusal, and put back as bucket C.
 fn copy(words: &mut [u64], deltas: &mut [u8], b: usize, c: usize) -> Told {
-    let answer = buckets::take_bucket(words, deltas, b);
-    let bucket = answer.bucket;
-    put(buckets::put_bucket(words, deltas, c, bucket))
+    let bucket = taken(words, deltas, b);
+    put(words, deltas, c, bucket)
 }
 
 // cell B J: cell J of bucket B.
 fn cell(words: &[u64], deltas: &[u8], b: usize, j: usize) -> Told {
-    let answer = buckets::take_bucket(words, deltas, b);
-    let bucket = answer.bucket;
-    match bucket.cell(j) {
-        CellSaid::Cell(c) => Told {
-            second: c.key,
-            third: c.value,
-            ..Told::carrying(Said::Cell, c.hash)
-        },
-        CellSaid::Shape => Told::plain(Said::Shape),
-    }
+    Told::of(
+        taken(words, deltas, b).cell(j).map(|cell| Told {
+            second: cell.key,
+            third: cell.value,
+            ..Told::carrying(Said::Cell, cell.hash)
+        }),
+    )
 }
 
-// change B J KEY VALUE: bucket B is taken out, its cell J becomes that key's, and it is put back where it was.
+// change B J KEY VALUE: bucket B is taken out, its cell J becomes that key's, and it is put back where it was. Where it has no cell J,
+// the bucket by its digest.
 fn change(words: &mut [u64], deltas: &mut [u8], b: usize, j: usize, new: Cell) -> Told {
-    let answer = buckets::take_bucket(words, deltas, b);
-    let bucket = answer.bucket;
-    let changed = bucket.with_cell(j, new);
-    let answered = changed.said;
-    let after = changed.bucket;
-    match answered {
-        ChangeSaid::Changed => put(buckets::put_bucket(words, deltas, b, after)),
-        ChangeSaid::Shape => Told::carrying(Said::Shape, digest_of(after)),
+    let bucket = taken(words, deltas, b);
+    match bucket.with_cell(j, new) {
+        Ok(changed) => put(words, deltas, b, changed),
+        Err(refused) => Told {
+            first: digest_of(bucket),
+            ..Told::from(refused)
+        },
     }
 }
 

@@ -3,28 +3,23 @@
 // are those of the Rust or, off its domain, of the model of document 01.
 #![tactic(auto)]
 
-use forms::line::Line;
+use forms::reader::Reader;
 use kept::{Memory, with_memory};
 use serving::lines;
 use serving::lines::Mode;
-use std::fmt::Write;
+use std::io;
+use std::io::Read;
 
-// Standard input.
-const STDIN_FILENO: i32 = 0;
-
-fn run(memory: &mut Memory) {
+fn run<R: Read>(rt: &impl Print, memory: &mut Memory, source: &mut R) -> io::Result<()> {
     let mut input = [0; 20_480];
-    let n = io::read_full(STDIN_FILENO, &mut input);
-    let all = lines::serve(memory, &mut input, n, Mode::Replay);
-    let mut line = Line::<64>::new();
-    let _ = write!(
-        line,
+    let mut reader = Reader::new(source, &mut input)?;
+    let all = lines::serve(rt, memory, &mut reader, Mode::Replay)?;
+    println!(rt;
         "{} requests, {} differences",
         all.requests, all.differences
-    );
-    line.print();
+    )
 }
 
-fn main() {
-    with_memory(run);
+fn main(rt: HostRuntime) -> io::Result<()> {
+    with_memory(|memory| run(&rt, memory, &mut rt.stdin()))
 }

@@ -1,11 +1,13 @@
 // Requests as lines of text. Each is answered by the line and its answer; in a replay it is held to the answer that stands
 // behind it. Empty lines and lines that start with '#' are no requests.
 use crate::turn;
-use forms::line::{Line, print};
+use forms::line::Line;
 use forms::reader::Reader;
 use forms::{Kind, text};
 use kept::show::show;
 use kept::{Memory, State};
+use std::io;
+use std::io::Read;
 
 // A line of input: one that fills its room is too long to be a request.
 type Input = Line<256>;
@@ -49,25 +51,31 @@ fn without_note(recorded: &[u8]) -> &[u8] {
 }
 
 // Writes a line as it is.
-fn echo(line: &[u8]) {
-    print(line);
-    print(b"\n");
+fn echo(rt: &impl Print, line: &[u8]) -> io::Result<()> {
+    rt.write_all(line)?;
+    rt.write_all(b"\n")
 }
 
 // Whether what was made is not the recorded line up to its note; then both are written.
-fn differs(made: &mut Output, recorded: &[u8]) -> bool {
+fn differs(rt: &impl Print, made: &mut Output, recorded: &[u8]) -> io::Result<bool> {
     if made.as_slice() == without_note(recorded) {
-        return false;
+        return Ok(false);
     }
-    print(b"recorded ");
-    echo(recorded);
-    print(b"here     ");
-    made.print();
-    true
+    print!(rt; "recorded ")?;
+    echo(rt, recorded)?;
+    print!(rt; "here     ")?;
+    made.print(rt)?;
+    Ok(true)
 }
 
 // Serves the request in a line. In a replay it tells whether the answer differs.
-fn answer(memory: &mut Memory, state: &mut State, line: &[u8], mode: Mode) -> bool {
+fn answer(
+    rt: &impl Print,
+    memory: &mut Memory,
+    state: &mut State,
+    line: &[u8],
+    mode: Mode,
+) -> io::Result<bool> {
     let asked = asked(line);
     let request = text::read(asked);
     let kind = request.map(|request| request.kind);
@@ -78,43 +86,55 @@ fn answer(memory: &mut Memory, state: &mut State, line: &[u8], mode: Mode) -> bo
     let _ = text::answer(&mut made, kind, &answer);
     let differs = match mode {
         Mode::Answer => {
-            made.print();
+            made.print(rt)?;
             false
         }
-        Mode::Replay => differs(&mut made, line),
+        Mode::Replay => differs(rt, &mut made, line)?,
     };
     if kind == Some(Kind::Show) {
-        show(memory, state);
+        show(rt, memory, state)?;
     }
-    differs
+    Ok(differs)
 }
 
 // Serves a line. One that is no request is written as it is.
-fn one(memory: &mut Memory, state: &mut State, input: &Input, mode: Mode, tally: &mut Tally) {
+fn one(
+    rt: &impl Print,
+    memory: &mut Memory,
+    state: &mut State,
+    input: &Input,
+    mode: Mode,
+    tally: &mut Tally,
+) -> io::Result<()> {
     let line = input.as_slice();
     if input.is_full() {
-        echo(b"a line that is too long: no such request");
+        println!(rt; "a line that is too long: no such request")?;
         tally.count(true);
     } else if line.is_empty() || line.starts_with(b"#") {
         if mode == Mode::Answer {
-            echo(line);
+            echo(rt, line)?;
         }
     } else {
-        tally.count(answer(memory, state, line, mode));
+        tally.count(answer(rt, memory, state, line, mode)?);
     }
+    Ok(())
 }
 
-// Serves all lines, of which the first n bytes are read already. The turns are counted, so that the loop ends.
-pub fn serve(memory: &mut Memory, input: &mut [u8], n: usize, mode: Mode) -> Tally {
+// Serves all lines of what is read. The turns are counted, so that the loop ends.
+pub fn serve<R: Read>(
+    rt: &impl Print,
+    memory: &mut Memory,
+    reader: &mut Reader<'_, R>,
+    mode: Mode,
+) -> io::Result<Tally> {
     let mut state = State::start();
     let mut tally = Tally::default();
-    let mut reader = Reader::new(input, n);
     let mut line = Input::new();
     for _ in 0..u64::MAX {
-        if !reader.read_line(&mut line) {
+        if !reader.read_line(&mut line)? {
             break;
         }
-        one(memory, &mut state, &line, mode, &mut tally);
+        one(rt, memory, &mut state, &line, mode, &mut tally)?;
     }
-    tally
+    Ok(tally)
 }
