@@ -35,17 +35,11 @@ def from_nothing(folder):
             out.write(f'\n// {time.time_ns()}\n')
     os.makedirs(f'{folder}/out/incremental')
 
-def build(room, source, wanted, proofs=None):
-    """The archive of the exports in the file compare/SOURCE, which use the wanted crates, for plain x86-64, as rustc compiles. A
-    loop needs a proof: PROOFS is a folder with FUNCTION.FILE.antt.txt for each file of proofs/FUNCTION."""
+def build(room, source, wanted):
+    """The archive of the exports in the file compare/SOURCE, which use the wanted crates, for plain x86-64, as rustc compiles."""
     copied(room, wanted, 'probe staticlib: {}\n')
     os.makedirs(f'{room}/crates/probe/src')
     shutil.copy(f'{TOP}/compare/{source}', f'{room}/crates/probe/src/lib.rt')
-    for name in os.listdir(proofs) if proofs else []:
-        function, file = name.split('.')[:2]
-        folder = f'{room}/crates/probe/proofs/{function}'
-        os.makedirs(folder, exist_ok=True)
-        shutil.copy(f'{proofs}/{name}', f'{folder}/{file}.antt')
     built = subprocess.run(['rt', 'lib', '--cpu', 'x86-64'], cwd=f'{room}/crates/probe', capture_output=True, text=True)
     if built.returncode:
         sys.exit(built.stdout[-4000:] + built.stderr[-4000:])
