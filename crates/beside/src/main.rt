@@ -19,7 +19,7 @@ fn find_two(two: [Bucket; 2], table: Table, key: u64) -> FindAnswer
     bucketfind::find(&two, table, key)
 }
 
-// What a find says, or the number of its refusal; and how many cells it looked at.
+// What a find says, or the number of its refusal in document 01; and how many cells it looked at.
 #[derive(Clone, Copy)]
 struct Shown(FindAnswer);
 
@@ -36,7 +36,7 @@ impl fmt::Display for Shown {
     }
 }
 
-// A table of eight cells, and the arrays that it lies in.
+// A table of eight cells, and the arrays that it lies in; the program worked has its own, of either size.
 #[derive(Clone, Copy)]
 struct Run {
     words: [u64; 24],

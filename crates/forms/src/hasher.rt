@@ -1,4 +1,4 @@
-// The hashers by their numbers.
+// The hashers by their numbers, which the compact form has. Two functions and no TryFrom: Hasher is another crate's type.
 ghost use Rattle.std.specs.Prelude.{◌≡◌, ◌↔◌, ◌≤◌, IsSome, IfSome};
 ghost use Rattle.forms.specs.Hashers.{number_of};
 

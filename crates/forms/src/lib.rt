@@ -17,7 +17,7 @@ pub use kind::{Group, Kind};
 pub use said::Said;
 pub use told::Told;
 
-// What is asked: a kind, and the numbers that it carries.
+// What is asked: a kind, and the numbers that it carries, four whatever is asked, as the compact form has them.
 #[derive(Clone, Copy)]
 pub struct Request {
     pub kind: Kind,

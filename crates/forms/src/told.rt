@@ -10,7 +10,8 @@ use hashiter::SetError;
 use hashmap::{InsertError, LookupError};
 use moves::MoveError;
 
-// What was said, with its values and the cells looked at.
+// What was said, with its values and the cells looked at. The compact form has a number and four places whatever is said: values in the
+// cases would need a second table from numbers to cases.
 #[derive(Clone, Copy)]
 pub struct Told {
     pub said: Said,

@@ -27,7 +27,7 @@ impl fmt::Display for Place {
     }
 }
 
-// What an insert says: its case, or the number of its refusal.
+// What an insert says: its case, or the number of its refusal in document 01, as the program worked shows them.
 #[derive(Clone, Copy)]
 struct Inserted(Result<InsertSaid, GrowError>);
 

@@ -14,7 +14,7 @@ type Input = Line<256>;
 
 type Output = Line<512>;
 
-// What is done with answers.
+// What is done with answers. An enum: two steps of the way differ by it, and a closure for each would be handed down as far.
 #[derive(Clone, Copy, Debug, PartialEq, Eq)]
 pub enum Mode {
     // They are written, and so are lines that are no requests.

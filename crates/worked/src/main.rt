@@ -7,7 +7,8 @@ use hashers::Hasher;
 use hashmap::{InsertAnswer, InsertError, InsertSaid, LookupError, Table};
 use std::{fmt, io};
 
-// What an insert says: its case, or the number of its refusal.
+// What an insert says: its case, or the number of its refusal in document 01. The programs share no crate for how they print: each shows
+// the answers of its own calls.
 #[derive(Clone, Copy)]
 struct Inserted(Result<InsertSaid, InsertError>);
 
