@@ -1,5 +1,5 @@
 // Buckets out and in.
-use buckets::{Bucket, Cell};
+use buckets::{Bucket, Cell, Unchanged};
 use forms::digest::{mix, mix_all};
 use forms::{Kind, Request, Said, Told};
 use hashers::Hasher;
@@ -58,10 +58,7 @@ fn change(words: &mut [u64], deltas: &mut [u8], b: usize, j: usize, new: Cell) -
     let bucket = taken(words, deltas, b);
     match bucket.with_cell(j, new) {
         Ok(changed) => put(words, deltas, b, changed),
-        Err(refused) => Told {
-            first: digest_of(bucket),
-            ..Told::from(refused)
-        },
+        Err(Unchanged(bucket)) => Told::carrying(Said::Shape, digest_of(bucket)),
     }
 }
 
