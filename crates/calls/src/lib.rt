@@ -15,10 +15,13 @@ fn number(n: usize) -> Told {
 }
 
 fn paired(pair: Option<KeyValue>) -> Told {
-    pair.map_or(Told::plain(Said::Absent), |pair| Told {
-        second: pair.value,
-        ..Told::carrying(Said::Pair, pair.key)
-    })
+    pair.map_or(
+        Told::plain(Said::Absent),
+        |pair| Told {
+            second: pair.value,
+            ..Told::carrying(Said::Pair, pair.key)
+        },
+    )
 }
 
 // A refused clear leaves the record as it was.
@@ -65,10 +68,16 @@ pub fn serve(
         Kind::Len => number(hashreads::len(record)),
         Kind::IsEmpty => answered(hashreads::is_empty(record)),
         Kind::Capacity => Told::of(hashreads::capacity(words, deltas).map(number)),
-        Kind::ContainsKey => Told::of(hashreads::contains_key(words, deltas, record, a).map(answered)),
-        Kind::GetKeyValue => Told::of(hashreads::get_key_value(words, deltas, record, a).map(paired)),
+        Kind::ContainsKey => Told::of(hashreads::contains_key(words, deltas, record, a).map(
+            answered,
+        )),
+        Kind::GetKeyValue => Told::of(hashreads::get_key_value(words, deltas, record, a).map(
+            paired,
+        )),
         Kind::Hash => Told::carrying(Said::Number, hashers::hash_of(record.hasher, a)),
-        Kind::Check => Told::of(checker::check(words, deltas, record).map(|()| Told::plain(Said::Sound))),
+        Kind::Check => Told::of(checker::check(words, deltas, record).map(|()| Told::plain(
+            Said::Sound,
+        ))),
         _ => return None,
     })
 }

@@ -44,10 +44,12 @@ fn remove(words: &mut [u64], deltas: &[u8], table: &mut Table, entry: Entry) -> 
 fn remove_entry(words: &mut [u64], deltas: &[u8], table: &mut Table, entry: Entry) -> Told {
     let answer = hashentry::remove_entry(words, deltas, *table, entry);
     *table = answer.table;
-    let told = Told::of(answer.said.map(|old| Told {
-        second: old,
-        ..Told::plain(Said::Pair)
-    }));
+    let told = Told::of(
+        answer.said.map(|old| Told {
+            second: old,
+            ..Told::plain(Said::Pair)
+        }),
+    );
     Told {
         first: answer.key,
         ..told
