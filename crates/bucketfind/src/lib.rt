@@ -68,7 +68,8 @@ fn bucket_at(buckets: &[Bucket], at: u64) -> Bucket
     buckets[bucket_index(at, buckets.len())]
 }
 
-// Behind the checks of find: the home, then its first delta, then second deltas.
+// Behind the checks of find: the home, then its first delta, then second deltas. The walk of cells again, over buckets: document 01 asks
+// for one lookup in the Rust's own shape.
 fn find_in(buckets: &[Bucket], hash: u64, key: u64) -> FindAnswer
     requires { is_size (size_of buckets.now) ≡ true }
     ensures { find_answer result ≡ find_in (size_of buckets.now) null (cells_in buckets.now) (values_in buckets.now) hash key }

@@ -1,5 +1,6 @@
 // The checker: whether a lent table is sound. It reads each chain once, up to its first stranger, and walks to each taken
 // cell by the cell's own hash and key, so it needs no memory of its own.
+// The slices of the call come one by one, as in hashmap.
 #![tactic(auto)]
 
 ghost use Rattle.std.specs.Prelude.{◌≡◌, ◌-◌, ◌<◌, slice_index};

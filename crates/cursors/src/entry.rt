@@ -21,6 +21,8 @@ fn make(words: &[u64], deltas: &[u8], table: Table, held: &mut Entry, key: u64) 
     Told::of(made.map(shown))
 }
 
+// A function for each request, with the call that it makes: told by one function they would pass the call.
+
 // entry_get
 fn get(words: &[u64], deltas: &[u8], table: Table, entry: Entry) -> Told {
     let said = hashentry::get(words, deltas, table, entry);

@@ -36,7 +36,8 @@ pub struct FindAnswer {
     pub looked: usize,
 }
 
-// What a remove says: the value removed, or none where the key is absent.
+// What a remove says: the value removed, or none where the key is absent. A struct beside InsertAnswer and no generic one: docs/API.md
+// and the laws of outcomes name each.
 #[derive(Clone, Copy)]
 pub struct RemoveAnswer {
     pub said: Result<Option<u64>, LookupError>,

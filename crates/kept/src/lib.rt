@@ -46,7 +46,7 @@ impl State {
         }
     }
 
-    // lend WORDS DELTAS: from now on so many of each are lent; what stands there stays.
+    // lend WORDS DELTAS: from now on so many of each are lent; what stands there stays. A line for each request: by a parameter it would be two.
     fn lend(&mut self, words: u64, deltas: u64) -> Option<()> {
         self.lent = Lent::new(words, deltas, ROOM)?;
         Some(())

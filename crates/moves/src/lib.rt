@@ -1,4 +1,5 @@
 // The plain move: the live cells of a table go over into one lent table of any allowed size.
+// The slices come one by one, as in hashmap.
 #![tactic(auto)]
 
 ghost use Rattle.std.specs.Prelude.{true, List, ◌≡◌, ℕ, ◌*◌, ◌≤◌, length, Err};

@@ -89,7 +89,7 @@ fn totalled(end: Result<usize, WalkError>, live: usize) -> Result<usize, WalkErr
 }
 
 // A whole move into clear slices of `cells` cells. Where it stops, they are cleared again, whole.
-// The source goes by its words, cells and live: of a struct that holds a slice a clause has to say at which moment it is read.
+// The source goes by its words, cells and live: a View would ask for deltas, which no move reads.
 pub fn move_into(
     from: &[u64],
     size: usize,
