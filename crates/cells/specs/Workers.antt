@@ -13,6 +13,8 @@ use Rattle.cells.specs.declared.insert.InsertSaid.{InsertSaid}
 use Rattle.cells.specs.declared.insert.InsertSaid.TheVariants as says
 use Rattle.cells.specs.declared.insert.WalkError.{WalkError}
 use Rattle.cells.specs.declared.insert.WalkError.TheVariants as fails
+use Rattle.cells.specs.declared.insert.Put.{Put}
+use Rattle.cells.specs.declared.insert.Put.TheVariants as puts
 use Rattle.cells.specs.declared.insert.Inserted.{Inserted}
 
 abbrev pub stop_of : Stop → rule.Stop
@@ -35,9 +37,20 @@ abbrev pub walk_failed : WalkError → Said
 walk_failed (fails.Full at) = refused 4 (at.position ∷ [])
 walk_failed fails.Broken = refused 5 []
 
-abbrev pub worker_said : Result InsertSaid WalkError → Said
-worker_said (Ok s) = put_said s
-worker_said (Err e) = walk_failed e
+abbrev pub answer_said : Result InsertSaid WalkError → Said
+answer_said (Ok s) = put_said s
+answer_said (Err e) = walk_failed e
+
+-- a worker's answer as a Result, and what it says
+abbrev pub answer_of : Put → Result InsertSaid WalkError
+answer_of puts.New = Ok says.New
+answer_of (puts.Replaced old) = Ok (says.Replaced old)
+answer_of puts.Revived = Ok says.Revived
+answer_of (puts.Full at) = Err (fails.Full at)
+answer_of puts.Broken = Err fails.Broken
+
+abbrev pub worker_said : Put → Said
+worker_said p = answer_said (answer_of p)
 
 -- what an insert's worker did, with the slices that it left
 abbrev pub insert_done : Inserted → List ℕ → List ℕ → Done

@@ -18,7 +18,7 @@ use Rattle.cells.specs.declared.insert.WalkError.{WalkError}
 use Rattle.cells.specs.declared.insert.WalkError.TheVariants as fails
 use Rattle.cells.specs.declared.insert.Inserted.{Inserted}
 use Rattle.cells.specs.Layout.{Done, done_by, counts_of}
-use Rattle.cells.specs.Workers.{put_said, walk_failed, worker_said, place_by, place_after, InsertedBy}
+use Rattle.cells.specs.Workers.{put_said, walk_failed, answer_said, answer_of, worker_said, place_by, place_after, InsertedBy}
 use Rattle.entryinsert.specs.Answers.{handed_by}
 use Rattle.entryinsert.specs.Workers.{put_in}
 
@@ -83,14 +83,14 @@ module _ (S null : ℕ) (cs : Cells) (value : ℕ → ℕ) (t : Table) (h k v : 
               };
         })
 
-    pub put_refused : (x : WalkError) → r.said ≡ Err x → (told : Said) → told ≡ walk_failed x
+    pub put_refused : (x : WalkError) → answer_of r.said ≡ Err x → (told : Said) → told ≡ walk_failed x
         → record { entry = e; left = record { done = record { said = told; looked = 0; counts = counts_of r.live; words = ws'; deltas = ds' }; hasher = t.hasher } } ≡ handed_by (put_in S null cs value (counts_of t.live) h k v) e t ws ds
     put_refused x q told et =
-        let es = ap worker_said q in
+        let es = ap answer_said q in
         handed told (et ∙ sym es) e (kept e _ (sym d.cell ∙ ap (place_by r.at) (said_as ∙ es) ∙ nowhere r.at x))
 
-    pub put_inserted : (x : InsertSaid) → r.said ≡ Ok x → (told : Said) → told ≡ put_said x
+    pub put_inserted : (x : InsertSaid) → answer_of r.said ≡ Ok x → (told : Said) → told ≡ put_said x
         → record { entry = record { key = e.key; hash = e.hash; place = occupied r.at }; left = record { done = record { said = told; looked = 0; counts = counts_of r.live; words = ws'; deltas = ds' }; hasher = t.hasher } } ≡ handed_by (put_in S null cs value (counts_of t.live) h k v) e t ws ds
     put_inserted x q told et =
-        let es = ap worker_said q in
+        let es = ap answer_said q in
         handed told (et ∙ sym es) _ (moved e _ r.at (sym d.cell ∙ ap (place_by r.at) (said_as ∙ es) ∙ there r.at x))

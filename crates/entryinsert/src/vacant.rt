@@ -147,7 +147,7 @@ pub fn put(
     };
     let done = insert_after(words, deltas, size, table.live, cell, walked);
     table.live = done.live;
-    let said = done.said?;
+    let said = done.said.answer()?;
     entry.place = Place::Occupied(CellAt { index: done.at });
     Ok(said.into())
 }

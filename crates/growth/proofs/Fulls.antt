@@ -17,10 +17,10 @@ use Rattle.cells.specs.Layout.{null, view, value_in, params_of, counts_of, fresh
 use Rattle.cells.specs.Workers.{put_said, worker_said, insert_done}
 use Rattle.cells.specs.declared.insert.FullAt.{FullAt}
 use Rattle.cells.specs.declared.insert.Inserted.{Inserted}
+use Rattle.cells.specs.declared.insert.Put.{Put}
+use Rattle.cells.specs.declared.insert.Put.TheVariants as puts
 use Rattle.cells.specs.declared.insert.InsertSaid.{InsertSaid}
 use Rattle.cells.specs.declared.insert.InsertSaid.TheVariants as says
-use Rattle.cells.specs.declared.insert.WalkError.{WalkError}
-use Rattle.cells.specs.declared.insert.WalkError.TheVariants as fails
 use Rattle.moving.specs.Slices.{held_in, clear_held}
 use Rattle.laws.proofs.Refusals.{stored_refused_leaves}
 use Rattle.sizing.proofs.Samples.{sample_most}
@@ -100,7 +100,7 @@ module _ (cells size live h k v : ℕ) (ws ds sws sds : List ℕ) (r : Inserted)
   said_is = ap (λ (x : Done). x.said) done
 
   -- an answer that is not Full ends the round
-  pub round_answered : (x : Result InsertSaid WalkError) → r.said ≡ x → is_full (worker_said x) ≡ false → (hasher : Hasher)
+  pub round_answered : (x : Put) → r.said ≡ x → is_full (worker_said x) ≡ false → (hasher : Hasher)
       → record {
         end = turns.answered (worker_said x);
         looked = r.looked;
@@ -126,7 +126,7 @@ module _ (cells size live h k v : ℕ) (ws ds sws sds : List ℕ) (r : Inserted)
         spare_deltas = sds;
       })
 
-  module _ (at : FullAt) (q : r.said ≡ Err (fails.Full at)) where
+  module _ (at : FullAt) (q : r.said ≡ puts.Full at) where
     says_full : here.said ≡ refused 4 (at.position ∷ [])
     says_full = sym said_is ∙ ap worker_said q
 

@@ -13,7 +13,7 @@ ghost use Rattle.growth.specs.Rounds.{Power, Cleared, Room, Halved, Sides, answe
 ghost use Rattle.growth.specs.Growth.{grow_failed, grew_from, rounds_on, grown_by, grow_left};
 
 pub use cells::insert::InsertSaid;
-use cells::insert::{WalkError, insert_stored};
+use cells::insert::{Put, WalkError, insert_stored};
 use cells::{Cell, Table, offer};
 use hashers::hash_of;
 use moving::{clear_both, move_into};
@@ -170,12 +170,22 @@ fn one_round(
     let done = insert_stored(words, deltas, size, live, cell);
     let looked = done.looked;
     match done.said {
-        Ok(said) => Turned {
-            end: RoundEnd::Answered(Ok(said)),
+        Put::New => Turned {
+            end: RoundEnd::Answered(Ok(InsertSaid::New)),
             looked,
             live: done.live,
         },
-        Err(WalkError::Full(at)) => after_full(
+        Put::Replaced(old) => Turned {
+            end: RoundEnd::Answered(Ok(InsertSaid::Replaced(old))),
+            looked,
+            live: done.live,
+        },
+        Put::Revived => Turned {
+            end: RoundEnd::Answered(Ok(InsertSaid::Revived)),
+            looked,
+            live: done.live,
+        },
+        Put::Full(at) => after_full(
             words,
             deltas,
             spare_words,
@@ -186,7 +196,7 @@ fn one_round(
             looked,
             at.position,
         ),
-        Err(WalkError::Broken) => Turned {
+        Put::Broken => Turned {
             end: RoundEnd::Answered(Err(GrowError::Broken)),
             looked,
             live: done.live,

@@ -10,7 +10,7 @@ ghost use Rattle.hashmap.specs.Answers.{find_answer, remove_done, remove_left, i
 
 use cells::clear::{clear_deltas, clear_words};
 pub use cells::insert::{FullAt, InsertSaid};
-use cells::insert::{WalkError, insert_stored};
+use cells::insert::{Put, WalkError, insert_stored};
 use cells::slices::{store_value, value_at};
 use cells::walk::{Stop, View};
 pub use cells::{ShapeError, Table};
@@ -72,10 +72,10 @@ impl From<WalkError> for InsertError {
 }
 
 // A worker's answer, its errors among those of the call.
-fn as_said(said: Result<InsertSaid, WalkError>) -> Result<InsertSaid, InsertError>
+fn as_said(said: Put) -> Result<InsertSaid, InsertError>
     ensures { insert_said result ≡ worker_said said }
 {
-    Ok(said?)
+    Ok(said.answer()?)
 }
 
 #[derive(Clone, Copy)]

@@ -14,8 +14,8 @@ use Rattle.rules.specs.Moves.{Held, held_after, all, Moved, stop_with, cell_move
 use Rattle.steps.proofs.Sizes.{size_least}
 use Rattle.cells.specs.Layout.{Shaped, Done, done_by, null, view, value_in, counts_of, words_after, deltas_after}
 use Rattle.cells.specs.Workers.{worker_said, insert_done}
-use Rattle.cells.specs.declared.insert.InsertSaid.{InsertSaid}
-use Rattle.cells.specs.declared.insert.InsertSaid.TheVariants as says
+use Rattle.cells.specs.declared.insert.Put.{Put}
+use Rattle.cells.specs.declared.insert.Put.TheVariants as says
 use Rattle.cells.specs.declared.insert.WalkError.{WalkError}
 use Rattle.cells.specs.declared.insert.WalkError.TheVariants as fails
 use Rattle.cells.specs.declared.insert.Inserted.{Inserted}
@@ -52,12 +52,12 @@ by_rule revived change c ws ds = refl
 by_rule (removed v) change c ws ds = refl
 
 -- by the code
-by_code : (s : Result InsertSaid WalkError) (live : ℕ) (ws ds : List ℕ) → placed (end_of (end_after s live)) ws ds ≡ cell_placed (worker_said s) (counts_of live) ws ds
-by_code (Ok says.New) live ws ds = refl
-by_code (Ok (says.Replaced old)) live ws ds = refl
-by_code (Ok says.Revived) live ws ds = refl
-by_code (Err (fails.Full at)) live ws ds = refl
-by_code (Err fails.Broken) live ws ds = refl
+by_code : (s : Put) (live : ℕ) (ws ds : List ℕ) → placed (end_of (end_after s live)) ws ds ≡ cell_placed (worker_said s) (counts_of live) ws ds
+by_code says.New live ws ds = refl
+by_code (says.Replaced old) live ws ds = refl
+by_code says.Revived live ws ds = refl
+by_code (says.Full at) live ws ds = refl
+by_code says.Broken live ws ds = refl
 
 module _ (from : Held) (T i : ℕ) (ws ds : List ℕ) (c : Counts) (v : ℕ) (ev : v ≡ from.value i) where
   -- a cell with the value null stays behind

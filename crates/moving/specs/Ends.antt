@@ -3,8 +3,8 @@ use Rattle.std.specs.Prelude.{cond, List, [], ◌∷◌, ℕ, eqb, Result, Ok, E
 use Rattle.rules.specs.Cells.{Counts}
 use Rattle.rules.specs.Moves.{Ended, all, stop, Moved, MoveOutcome}
 use Rattle.cells.specs.Layout.{counts_of}
-use Rattle.cells.specs.declared.insert.InsertSaid.{InsertSaid}
-use Rattle.cells.specs.declared.insert.InsertSaid.TheVariants as says
+use Rattle.cells.specs.declared.insert.Put.{Put}
+use Rattle.cells.specs.declared.insert.Put.TheVariants as says
 use Rattle.cells.specs.declared.insert.WalkError.{WalkError}
 use Rattle.cells.specs.declared.insert.WalkError.TheVariants.{Full, Broken}
 use Rattle.moving.specs.Slices.{words_after_all, deltas_after_all, words_become, deltas_become}
@@ -16,11 +16,12 @@ end_of (Err (Full at)) = stop 4 (at.position ∷ [])
 end_of (Err Broken) = stop 5 []
 
 -- by the insert's answer for a cell: a refusal is the move's, any other answer but New is 5
-abbrev pub end_after : Result InsertSaid WalkError → ℕ → Result ℕ WalkError
-end_after (Ok says.New) live = Ok live
-end_after (Ok (says.Replaced old)) live = Err Broken
-end_after (Ok says.Revived) live = Err Broken
-end_after (Err e) live = Err e
+abbrev pub end_after : Put → ℕ → Result ℕ WalkError
+end_after says.New live = Ok live
+end_after (says.Replaced old) live = Err Broken
+end_after says.Revived live = Err Broken
+end_after (says.Full at) live = Err (Full at)
+end_after says.Broken live = Err Broken
 
 -- the total comes last: it must be live
 abbrev pub end_totalled : ℕ → Result ℕ WalkError → Result ℕ WalkError

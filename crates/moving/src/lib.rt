@@ -10,7 +10,7 @@ ghost use Rattle.moving.specs.Slices.{held_in, clear_held};
 ghost use Rattle.moving.specs.Ends.{end_of, end_after, end_totalled, placed, placed_by, into_by};
 
 use cells::clear::{clear_deltas, clear_words};
-use cells::insert::{InsertSaid, WalkError, insert_stored};
+use cells::insert::{Put, WalkError, insert_stored};
 use cells::slices::{hash_at, key_at, value_at};
 use cells::{Cell, Table};
 
@@ -24,12 +24,13 @@ pub fn clear_both(words: &mut [u64], deltas: &mut [u8], cells: usize)
 }
 
 // By what the insert of a cell said, the counted cells: a cell that was there before is 5.
-fn end_after(said: Result<InsertSaid, WalkError>, live: usize) -> Result<usize, WalkError>
+fn end_after(said: Put, live: usize) -> Result<usize, WalkError>
     ensures { result ≡ end_after said live }
 {
-    match said? {
-        InsertSaid::New => Ok(live),
-        InsertSaid::Replaced(_) | InsertSaid::Revived => Err(WalkError::Broken),
+    match said {
+        Put::New => Ok(live),
+        Put::Full(at) => Err(WalkError::Full(at)),
+        Put::Replaced(_) | Put::Revived | Put::Broken => Err(WalkError::Broken),
     }
 }
 

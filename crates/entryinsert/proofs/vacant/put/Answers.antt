@@ -10,8 +10,8 @@ returns-then-is_found c = put_stale _ _ _ _ _ _ _ _ _ _ _ _ c.walk_to-walked.ens
 
 pub returns-in_err-said : goal.returns-in_err-said
 returns-in_err-said c =
-    put_refused _ _ _ _ c.args.table.now _ _ _ _ _ _ _ c.walk_to-walked.ensures (sym c.if-is_found.false ∙ c.is_found.ensures) c.insert_after-done.ensures _ c.in_err-said.was _ (passed_as entry_insert_said c.from_residual.result _ c.from_residual.ensures.1)
+    put_refused _ _ _ _ c.args.table.now _ _ _ _ _ _ _ c.walk_to-walked.ensures (sym c.if-is_found.false ∙ c.is_found.ensures) c.insert_after-done.ensures _ (sym c.answer.ensures ∙ c.in_err-said.was) _ (passed_as entry_insert_said c.from_residual.result _ c.from_residual.ensures.1)
 
 pub returns : goal.returns
 returns c =
-    put_inserted _ _ _ _ c.args.table.now _ _ _ _ _ _ _ c.walk_to-walked.ensures (sym c.if-is_found.false ∙ c.is_found.ensures) c.insert_after-done.ensures _ c.in_ok-said.was _ c.into.ensures
+    put_inserted _ _ _ _ c.args.table.now _ _ _ _ _ _ _ c.walk_to-walked.ensures (sym c.if-is_found.false ∙ c.is_found.ensures) c.insert_after-done.ensures _ (sym c.answer.ensures ∙ c.in_ok-said.was) _ c.into.ensures
