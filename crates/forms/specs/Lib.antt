@@ -1,1 +1,3 @@
 pub mod Hashers
+pub mod Kinds
+pub mod Sayings

@@ -1,5 +1,5 @@
 // A source, read block by block into memory that is lent: std's readers of lines allocate.
-ghost use Rattle.std.specs.Prelude.{◌≤◌, IfOk, length};
+ghost use Rattle.std.specs.Prelude.{◌≡◌, ◌↔◌, ◌≤◌, IsTrue, IfOk, length};
 
 use crate::line::Line;
 use std::io;
@@ -48,7 +48,9 @@ impl<'a, R: Read> Reader<'a, R> {
     }
 
     // Whether the last block is empty, as the one behind the source's end is.
-    pub fn has_ended(&self) -> bool {
+    pub fn has_ended(&self) -> bool
+        ensures { IsTrue result ↔ (self.now.end ≡ 0) }
+    {
         self.end == 0
     }
 
