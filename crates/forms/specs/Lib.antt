@@ -1,1 +1,4 @@
+pub mod Digests
 pub mod Hashers
+pub mod Kinds
+pub mod Sayings

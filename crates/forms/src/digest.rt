@@ -1,7 +1,12 @@
 // One number for slices of words and bytes, each with its length.
+ghost use Rattle.std.specs.Prelude.{◌≡◌};
+ghost use Rattle.forms.specs.Digests.{mix_of};
 
 // Takes one number in. For each digest so far it is one to one, so a change of one number always shows.
-pub fn mix(digest: u64, x: u64) -> u64 {
+#[tactic(auto, unfolding(crate::specs::Digests::mix_of, crate::specs::Digests::folded))]
+pub fn mix(digest: u64, x: u64) -> u64
+    ensures { result ≡ mix_of digest x }
+{
     let product = (digest ^ x).wrapping_mul(0x9e37_79b9_7f4a_7c15);
     product ^ (product >> 32)
 }

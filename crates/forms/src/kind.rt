@@ -1,4 +1,7 @@
 // The kinds of request: each has a number in the compact form and a word in text.
+ghost use Rattle.std.specs.Prelude.{◌≡◌};
+ghost use Rattle.forms.specs.Kinds.{group_of, looks, grows};
+
 use std::str::FromStr;
 
 #[derive(Clone, Copy, Debug, PartialEq, Eq)]
@@ -200,7 +203,9 @@ impl FromStr for Kind {
 }
 
 impl Kind {
-    pub fn group(self) -> Group {
+    pub fn group(self) -> Group
+        ensures { result ≡ group_of self }
+    {
         match self {
             Kind::Nothing
             | Kind::Lend
@@ -251,7 +256,9 @@ impl Kind {
     }
 
     // Whether an answer of that kind has a count of cells looked at.
-    pub fn looks(self) -> bool {
+    pub fn looks(self) -> bool
+        ensures { result ≡ looks self }
+    {
         matches!(
             &self,
             Kind::Insert
@@ -264,7 +271,9 @@ impl Kind {
     }
 
     // Whether an answer of that kind says where a growing table is.
-    pub fn grows(self) -> bool {
+    pub fn grows(self) -> bool
+        ensures { result ≡ grows self }
+    {
         matches!(
             &self,
             Kind::Halves

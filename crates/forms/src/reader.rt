@@ -1,5 +1,5 @@
 // A source, read block by block into memory that is lent: std's readers of lines allocate.
-ghost use Rattle.std.specs.Prelude.{◌≤◌, IfOk, length};
+ghost use Rattle.std.specs.Prelude.{◌≡◌, ◌↔◌, ◌≤◌, ◌-◌, IsTrue, IfOk, length, take, drop};
 
 use crate::line::Line;
 use std::io;
@@ -43,12 +43,16 @@ impl<'a, R: Read> Reader<'a, R> {
     }
 
     // The part of the block that is still to be taken.
-    pub fn rest(&self) -> &[u8] {
+    pub fn rest(&self) -> &[u8]
+        ensures { self.now.end ≤ length self.now.block.now → result.now ≡ take (self.now.end - self.now.at) (drop self.now.at self.now.block.now) }
+    {
         self.block.get(self.at..self.end).unwrap_or(&[])
     }
 
     // Whether the last block is empty, as the one behind the source's end is.
-    pub fn has_ended(&self) -> bool {
+    pub fn has_ended(&self) -> bool
+        ensures { IsTrue result ↔ (self.now.end ≡ 0) }
+    {
         self.end == 0
     }
 

@@ -1,4 +1,7 @@
 // What is said: each answer has a number in the compact form and a name in text.
+ghost use Rattle.std.specs.Prelude.{◌≡◌};
+ghost use Rattle.forms.specs.Sayings.{values_of};
+
 use std::fmt;
 
 #[derive(Clone, Copy, Debug, PartialEq, Eq)]
@@ -82,7 +85,9 @@ impl fmt::Display for Said {
 
 impl Said {
     // How many values such an answer carries, for its text.
-    pub fn values(self) -> usize {
+    pub fn values(self) -> usize
+        ensures { result ≡ values_of self }
+    {
         match self {
             Said::Full
             | Said::Replaced

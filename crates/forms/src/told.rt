@@ -1,4 +1,6 @@
 // What is told of an answer: what was said, and the numbers that go with it. Each error of a call has its conversion here.
+ghost use Rattle.std.specs.Prelude.{◌≡◌, IsNone, IfSome};
+
 use crate::Said;
 use cells::ShapeError;
 use cells::insert::InsertSaid;
@@ -23,11 +25,15 @@ pub struct Told {
 
 impl Told {
     // With no value and no cell looked at.
-    pub fn plain(said: Said) -> Told {
+    pub fn plain(said: Said) -> Told
+        ensures { result ≡ record { said = said; first = 0; second = 0; third = 0; looked = 0 } }
+    {
         Told::carrying(said, 0)
     }
 
-    pub fn carrying(said: Said, first: u64) -> Told {
+    pub fn carrying(said: Said, first: u64) -> Told
+        ensures { result ≡ record { said = said; first = first; second = 0; third = 0; looked = 0 } }
+    {
         Told {
             said,
             first,
@@ -38,7 +44,10 @@ impl Told {
     }
 
     // With the value, or Absent where there is none.
-    pub fn present(said: Said, value: Option<u64>) -> Told {
+    pub fn present(said: Said, value: Option<u64>) -> Told
+        ensures there { IfSome value (λ first. result ≡ record { said = said; first = first; second = 0; third = 0; looked = 0 }) }
+        ensures absent { IsNone value → result ≡ record { said = Said.Absent; first = 0; second = 0; third = 0; looked = 0 } }
+    {
         value.map_or(Told::plain(Said::Absent), |value| {
             Told::carrying(said, value)
         })
@@ -50,7 +59,9 @@ impl Told {
     }
 
     // With the cells looked at.
-    pub fn looking(self, looked: usize) -> Told {
+    pub fn looking(self, looked: usize) -> Told
+        ensures { result ≡ record self { looked = looked } }
+    {
         Told {
             looked: looked as u64,
             ..self

@@ -1,4 +1,8 @@
 // Buckets out and in.
+ghost use Rattle.std.specs.Prelude.{◌≡◌, ◌↔◌, IsSome};
+ghost use Rattle.forms.specs.Kinds.{group_of};
+ghost use Rattle.forms.specs.declared.kind.Group.TheVariants.{Buckets};
+
 use buckets::{Bucket, Cell, Unchanged};
 use forms::digest::{mix, mix_all};
 use forms::{Kind, Request, Said, Told};
@@ -63,12 +67,9 @@ fn change(words: &mut [u64], deltas: &mut [u8], b: usize, j: usize, new: Cell) -
 }
 
 // Serves a request for buckets; nothing where it is none.
-pub fn serve(
-    words: &mut [u64],
-    deltas: &mut [u8],
-    hasher: Hasher,
-    request: Request,
-) -> Option<Told> {
+pub fn serve(words: &mut [u64], deltas: &mut [u8], hasher: Hasher, request: Request) -> Option<Told>
+    ensures { IsSome result ↔ (group_of request.kind ≡ Buckets) }
+{
     let Request { kind, a, b, c, d } = request;
     let first = a as usize;
     let second = b as usize;

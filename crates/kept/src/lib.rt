@@ -1,6 +1,8 @@
 // What is kept between requests, the requests that change that alone or forge memory, and buckets out and in.
 #![tactic(auto)]
 
+ghost use Rattle.std.specs.Prelude.{◌≡◌, ◌≢◌, IsNone, false};
+
 pub mod bucket;
 pub mod forge;
 pub mod memory;
@@ -29,7 +31,12 @@ pub struct State {
 
 impl State {
     // Before any request: nothing is lent.
-    pub fn start() -> State {
+    pub fn start() -> State
+        ensures growing { result.growing ≡ record { table = record { hasher = Hasher.Simple; live = 0 }; size = 0; half = Half.Lower } }
+        ensures lent { result.lent ≡ record { words = 0; deltas = 0 } }
+        ensures spare { result.spare ≡ record { words = 0; deltas = 0 } }
+        ensures digests { result.digests ≡ false }
+    {
         State {
             growing: Growing {
                 table: Table {
@@ -47,19 +54,28 @@ impl State {
     }
 
     // lend WORDS DELTAS: from now on so many of each are lent; what stands there stays. A line for each request: by a parameter it would be two.
-    fn lend(&mut self, words: u64, deltas: u64) -> Option<()> {
+    fn lend(&mut self, words: u64, deltas: u64) -> Option<()>
+        ensures rest { self.new ≡ record self.old { lent = self.new.lent } }
+        ensures refused { IsNone result → self.new ≡ self.old }
+    {
         self.lent = Lent::new(words, deltas, ROOM)?;
         Some(())
     }
 
     // spare WORDS DELTAS: the same for the spare arrays.
-    fn lend_spare(&mut self, words: u64, deltas: u64) -> Option<()> {
+    fn lend_spare(&mut self, words: u64, deltas: u64) -> Option<()>
+        ensures rest { self.new ≡ record self.old { spare = self.new.spare } }
+        ensures refused { IsNone result → self.new ≡ self.old }
+    {
         self.spare = Lent::new(words, deltas, SPARE_ROOM)?;
         Some(())
     }
 
     // record HASHER LIVE
-    fn record(&mut self, hasher: u64, live: u64) -> Option<()> {
+    fn record(&mut self, hasher: u64, live: u64) -> Option<()>
+        ensures rest { self.new ≡ record self.old { growing = self.new.growing } }
+        ensures refused { IsNone result → self.new ≡ self.old }
+    {
         self.growing.table = Table {
             hasher: hasher_of(hasher)?,
             live: live as usize,
@@ -69,7 +85,10 @@ impl State {
 
     // What a call's request changes before the call. table SIZE HASHER lends 3 words and 2 deltas for each cell, halves CELLS SIZE
     // HASHER so many cells as each half.
-    pub fn prepare(&mut self, request: Request) {
+    pub fn prepare(&mut self, request: Request)
+        ensures rest { self.new ≡ record self.old { lent = self.new.lent; spare = self.new.spare } }
+        ensures other { request.kind ≢ Kind.Table → request.kind ≢ Kind.Halves → self.new ≡ self.old }
+    {
         match request.kind {
             Kind::Table => {
                 if let Some(lent) = Lent::of_cells(request.a, ROOM) {
@@ -87,7 +106,10 @@ impl State {
     }
 
     // Carries out a request that concerns what is kept alone; nothing where it cannot be.
-    pub fn change(&mut self, request: Request) -> Option<()> {
+    pub fn change(&mut self, request: Request) -> Option<()>
+        ensures hand { self.new.hand ≡ self.old.hand }
+        ensures refused { IsNone result → self.new ≡ self.old }
+    {
         let Request { kind, a, b, .. } = request;
         match kind {
             Kind::Lend => self.lend(a, b),
