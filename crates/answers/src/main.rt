@@ -10,6 +10,7 @@ use serving::lines::Mode;
 use serving::{lines, turn};
 use std::io;
 use std::io::Read;
+use streams::{Input, Output};
 
 // How many requests are read at once, at most.
 const BLOCK: usize = 512;
@@ -53,5 +54,5 @@ fn run<R: Read>(rt: &impl Print, memory: &mut Memory, source: &mut R) -> io::Res
 }
 
 fn main(rt: HostRuntime) -> io::Result<()> {
-    with_memory(|memory| run(&rt, memory, &mut rt.stdin()))
+    with_memory(|memory| run(&Output(&rt), memory, &mut Input(rt.stdin())))
 }

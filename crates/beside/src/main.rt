@@ -11,6 +11,7 @@ use buckets::Bucket;
 use hashers::Hasher;
 use hashmap::{FindAnswer, LookupError, Table};
 use std::{fmt, io};
+use streams::Output;
 
 // The lookup over two buckets, which are lent as a slice.
 fn find_two(two: [Bucket; 2], table: Table, key: u64) -> FindAnswer
@@ -81,7 +82,7 @@ impl Run {
 
     // Bucket b of the two, or an empty one where there is none.
     fn bucket(&self, b: usize) -> Bucket {
-        buckets::take_bucket(&self.words, &self.deltas, b).unwrap_or(Bucket::EMPTY)
+        buckets::take_bucket(&self.words, &self.deltas, b).unwrap_or_default()
     }
 
     fn find(&self, rt: &impl Print, keys: &[u64]) -> io::Result<()> {
@@ -148,6 +149,7 @@ fn forged(rt: &impl Print) -> io::Result<()> {
 }
 
 fn main(rt: HostRuntime) -> io::Result<()> {
+    let rt = Output(rt);
     let mut run = Run::new();
     chained(&rt, &mut run)?;
     wrapped(&rt, &mut run)?;

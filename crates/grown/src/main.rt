@@ -8,6 +8,7 @@ use hashers::Hasher;
 use hashmap::{InsertSaid, LookupError, Table};
 use parts::{Growing, Half};
 use std::{fmt, io};
+use streams::Output;
 
 // Live, and where the table is.
 #[derive(Clone, Copy)]
@@ -186,11 +187,12 @@ impl<'a> Run<'a> {
 // A table of 256 cells with the key 1; then 2 + j * 2^32 for j from 0 to 127: they have one home at every size. And 1 + 2^32, whose
 // home is cell 1 at every size: there is no room for it.
 fn eleven(rt: &impl Print) -> io::Result<()> {
-    println!(rt; "example 11: S = 256, C = 65536")?;
+    // Before the first `?`: behind it the compiler clears them twice.
     let mut lower_words = [0; 196608];
     let mut lower_deltas = [0; 131072];
     let mut upper_words = [0; 196608];
     let mut upper_deltas = [0; 131072];
+    println!(rt; "example 11: S = 256, C = 65536")?;
     let mut run = Run::fresh(
         &mut lower_words,
         &mut lower_deltas,
@@ -233,6 +235,7 @@ fn eight(rt: &impl Print, live: u8) -> io::Result<()> {
 }
 
 fn main(rt: HostRuntime) -> io::Result<()> {
+    let rt = Output(rt);
     eight(&rt, 4)?;
     eight(&rt, 5)?;
     eleven(&rt)

@@ -9,6 +9,7 @@ use serving::lines;
 use serving::lines::Mode;
 use std::io;
 use std::io::Read;
+use streams::{Input, Output};
 
 fn run<R: Read>(rt: &impl Print, memory: &mut Memory, source: &mut R) -> io::Result<()> {
     let mut input = [0; 20_480];
@@ -21,5 +22,5 @@ fn run<R: Read>(rt: &impl Print, memory: &mut Memory, source: &mut R) -> io::Res
 }
 
 fn main(rt: HostRuntime) -> io::Result<()> {
-    with_memory(|memory| run(&rt, memory, &mut rt.stdin()))
+    with_memory(|memory| run(&Output(&rt), memory, &mut Input(rt.stdin())))
 }

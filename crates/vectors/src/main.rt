@@ -4,6 +4,7 @@
 
 use hashers::{Hasher, MurmurHasher, Unwritten};
 use std::io;
+use streams::Output;
 
 // One line: a name, and a value in 16 hexadecimal digits.
 fn show(rt: &impl Print, name: &str, value: u64) -> io::Result<()> {
@@ -90,6 +91,7 @@ fn powers(rt: &impl Print) -> io::Result<()> {
 }
 
 fn main(rt: HostRuntime) -> io::Result<()> {
+    let rt = Output(rt);
     fnv(&rt)?;
     short(&rt)?;
     keys(&rt)?;

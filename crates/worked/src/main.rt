@@ -6,6 +6,7 @@
 use hashers::Hasher;
 use hashmap::{InsertAnswer, InsertError, InsertSaid, LookupError, Table};
 use std::{fmt, io};
+use streams::Output;
 
 // What an insert says: its case, or the number of its refusal in document 01. The programs share no crate for how they print: each shows
 // the answers of its own calls.
@@ -265,6 +266,7 @@ fn large(rt: &impl Print) -> io::Result<()> {
 }
 
 fn main(rt: HostRuntime) -> io::Result<()> {
+    let rt = Output(rt);
     small(&rt)?;
     large(&rt)
 }
