@@ -1,5 +1,6 @@
 // The walk to a key, and the probe past a tail.
-ghost use Rattle.std.specs.Prelude.{◌≡◌, ◌≤◌};
+ghost use Rattle.std.specs.Prelude.{◌≡◌, ◌*◌, ◌≤◌, true, length};
+ghost use Rattle.rules.specs.Sizes.{is_size};
 ghost use Rattle.rules.specs.Walk.{walk, probe};
 ghost use Rattle.steps.specs.Steps.{Ends};
 ghost use Rattle.cells.specs.Layout.{Shaped, view, hash_in};
@@ -21,6 +22,21 @@ pub enum Stop {
 pub struct Walked {
     pub stop: Stop,
     pub looked: usize,
+}
+
+// The next so many positions past a tail: the distance of the first empty cell, if there is one. It reads words alone, so it asks for no
+// View.
+pub fn probe_from(words: &[u64], size: usize, count: usize, tail: u64) -> Option<usize>
+    requires { (is_size size ≡ true) × (3 * size ≤ length words.now) × (count ≤ 128) }
+    ensures { hit_of result ≡ (probe size (hash_in words.now) tail count 1).hit }
+{
+    for d in 1..count + 1 {
+        let at = wrapping_add_u64(tail, d as u64);
+        if hash_at(words, cell_of(at, size)) == 0 {
+            return Some(d);
+        }
+    }
+    None
 }
 
 // What a walk reads: the slices hold so many cells, and may go on past them.
@@ -75,19 +91,11 @@ impl View<'_> {
         }
     }
 
-    // The next so many positions past a tail: the distance of the first empty cell, if there is one.
+    // The same of the slices of a view.
     pub fn probe_from(&self, count: usize, tail: u64) -> Option<usize>
         requires { count ≤ 128 }
         ensures { hit_of result ≡ (probe self.now.size (hash_in self.now.words.now) tail count 1).hit }
     {
-        let words = self.words;
-        let size = self.size;
-        for d in 1..count + 1 {
-            let at = wrapping_add_u64(tail, d as u64);
-            if hash_at(words, cell_of(at, size)) == 0 {
-                return Some(d);
-            }
-        }
-        None
+        probe_from(self.words, self.size, count, tail)
     }
 }
