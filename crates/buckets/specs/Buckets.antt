@@ -72,7 +72,7 @@ pub record Handed : Type 0 where
   pub said : Said
   pub bucket : Bucket
 
--- what a caller has then: the bucket, or under a refusal an empty one, as Bucket::EMPTY
+-- what a caller has then: the bucket, or under a refusal an empty one, which is Bucket's default
 abbrev pub taken : Result Bucket ShapeError → Handed
 taken (Ok k) = record { said = done; bucket = k }
 taken (Err e) = record { said = refused 1; bucket = empty_bucket }

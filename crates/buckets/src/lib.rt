@@ -4,7 +4,7 @@
 #![tactic(auto)]
 
 ghost use Rattle.std.specs.Prelude.{◌≡◌, ◌+◌, ◌*◌, ◌<◌, length};
-ghost use Rattle.buckets.specs.Buckets.{cell_at, bucket_at, words_with, deltas_with, fits_bucket, Inside, taken, taking, left, putting, changed, changing, cell_said, reading};
+ghost use Rattle.buckets.specs.Buckets.{cell_at, bucket_at, words_with, deltas_with, fits_bucket, empty_bucket, Inside, taken, taking, left, putting, changed, changing, cell_said, reading};
 
 pub use cells::{Cell, ShapeError};
 use cells::{Table, slices};
@@ -47,6 +47,15 @@ impl Bucket {
         } else {
             Err(Unchanged(self))
         }
+    }
+}
+
+// The bucket that a caller has who was refused one: an empty one.
+impl Default for Bucket {
+    ghost is_default = { λ bucket. bucket ≡ empty_bucket };
+
+    fn default() -> Bucket {
+        Bucket::EMPTY
     }
 }
 

@@ -1,5 +1,6 @@
 // Buckets out and in.
 ghost use Rattle.std.specs.Prelude.{◌≡◌, ◌↔◌, IsSome};
+ghost use Rattle.buckets.specs.Buckets.{taking};
 ghost use Rattle.forms.specs.Kinds.{group_of};
 ghost use Rattle.forms.specs.declared.kind.Group.TheVariants.{Buckets};
 
@@ -22,15 +23,17 @@ fn digest_of(bucket: Bucket) -> u64 {
 }
 
 // Bucket B, or an empty one under a refusal.
-fn taken(words: &[u64], deltas: &[u8], b: usize) -> Bucket {
-    buckets::take_bucket(words, deltas, b).unwrap_or(Bucket::EMPTY)
+fn taken(words: &[u64], deltas: &[u8], b: usize) -> Bucket
+    ensures { result ≡ (taking words.now deltas.now b).bucket }
+{
+    buckets::take_bucket(words, deltas, b).unwrap_or_default()
 }
 
 // take B: the bucket by its digest; that of an empty one under a refusal.
 fn take(words: &[u64], deltas: &[u8], b: usize) -> Told {
     let answer = buckets::take_bucket(words, deltas, b);
     Told {
-        first: digest_of(answer.unwrap_or(Bucket::EMPTY)),
+        first: digest_of(answer.unwrap_or_default()),
         ..Told::of(answer.map(|_bucket| Told::plain(Said::Taken)))
     }
 }
