@@ -10,7 +10,8 @@ ghost use Rattle.hashmap.specs.Answers.{find_answer, remove_left};
 ghost use Rattle.parts.specs.Halves.{lent_halves};
 ghost use Rattle.halves.specs.Answers.{clear_halves_left, clear_halves_rule, remove_halves_left, remove_rule, removed_from};
 
-use cells::{ShapeError, Table};
+pub use cells::ShapeError;
+use cells::Table;
 use hashers::Hasher;
 pub use hashmap::{FindAnswer, LookupError};
 use moving::clear_both;
@@ -74,8 +75,9 @@ pub fn find(
         let said = Err(LookupError::Shape);
         return FindAnswer { said, looked: 0 };
     }
-    let words = of_half(growing.half, lower_words, upper_words);
-    let deltas = of_half(growing.half, lower_deltas, upper_deltas);
+    let half = growing.half;
+    let words = of_half(half, lower_words, upper_words);
+    let deltas = of_half(half, lower_deltas, upper_deltas);
     find_front(words, deltas, growing.size, growing.table, key)
 }
 
