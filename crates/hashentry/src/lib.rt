@@ -7,6 +7,7 @@ mod making;
 mod occupied;
 
 pub use entries::record::{CellAt, Entry, Place};
+pub use hashmap::LookupError;
 pub use making::{entry, key};
 pub use occupied::{
     EntryRemoveAnswer, EntryRemoveError, GetError, RemoveEntryAnswer, ReplaceError, get, remove,

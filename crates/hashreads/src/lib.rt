@@ -7,8 +7,10 @@ ghost use Rattle.rules.specs.Calls.{find as find·rule};
 ghost use Rattle.cells.specs.Layout.{lent};
 ghost use Rattle.hashreads.specs.Answers.{contains_said, contains, key_value_said, key_value, capacity_said, capacity_rule};
 
-use cells::{ShapeError, Table, is_shaped};
-use hashmap::{LookupError, find};
+pub use cells::ShapeError;
+use cells::{Table, is_shaped};
+pub use hashmap::LookupError;
+use hashmap::find;
 
 // How many live cells the record counts.
 pub fn len(table: Table) -> usize
