@@ -27,7 +27,7 @@ pub fn write(answer: &Answer) -> [u8; 72] {
         answer.digest.unwrap_or(0),
     ];
     let mut bytes = [0; 72];
-    for (eight, number) in bytes.as_chunks_mut().0.iter_mut().zip(numbers) {
+    for (eight, number) in bytes.as_chunks_mut().0.iter_mut().zip(&numbers) {
         *eight = number.to_le_bytes();
     }
     bytes
